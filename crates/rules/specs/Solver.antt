@@ -11,7 +11,10 @@ use lib.ListN.{length}
 use lib.Ieee.{Float, binary64, add, sub, mul, div, lt, le, eq, ofInt}
 use Rattle.rules.specs.Numbers.{zero-f, whole, larger, plus, minimumOk, shareOk}
 use Rattle.rules.specs.Lists.{allOf}
+use Rattle.rules.specs.Tree.{reals}
+use Rattle.rules.specs.declared.model.Reals.{Reals}
 use Rattle.rules.specs.declared.solver.Kid.{Kid}
+use Rattle.rules.specs.declared.solver.Solution.{Solution}
 use Rattle.rules.specs.declared.refusal.Answer.{Answer}
 use Rattle.rules.specs.declared.refusal.Answer.the-variants.{Accepted, Refused}
 use Rattle.rules.specs.declared.refusal.Refusal.the-variants.{BadInput}
@@ -137,15 +140,21 @@ pub record Solved : Type 0 where
   pub lengths : List Float
   pub passes : ℕ
 
-abbrev pub solverOk : Float → List Float → List Float → Bool
-solverOk total shares minima = leb (length shares) 16 && eqb (length minima) (length shares) && minimumOk total && allOf shareOk shares && allOf minimumOk minima
+-- n and m are the lists' lengths as given, which may pass 16
+abbrev pub solverOk : ℕ → ℕ → Float → List Float → List Float → Bool
+solverOk n m total shares minima = leb n 16 && eqb m n && minimumOk total && allOf shareOk shares && allOf minimumOk minima
 
-abbrev pub solveAnswer : Lengths → Solved
-solveAnswer l = record { answer = Accepted; lengths = l .lengths; passes = l .passes }
+abbrev pub solved : Lengths → Solved
+solved l = record { answer = Accepted; lengths = l .lengths; passes = l .passes }
 
 abbrev pub solveBy : Bool → Float → List Float → List Float → Solved
-solveBy true total shares minima = solveAnswer (solveLengthsWithMin (plus total) shares (map plus minima))
+solveBy true total shares minima = solved (solveLengthsWithMin (plus total) shares (map plus minima))
 solveBy false total shares minima = record { answer = Refused BadInput; lengths = []; passes = 0 }
 
-unfoldable pub solve : Float → List Float → List Float → Solved
-solve total shares minima = solveBy (solverOk total shares minima) total shares minima
+unfoldable pub solve : Float → Reals → Reals → Solved
+solve total shares minima =
+    solveBy (solverOk (shares .len) (minima .len) total (reals shares) (reals minima)) total (reals shares) (reals minima)
+
+-- what the call hands back, read as the rule's
+abbrev pub viewSolution : Solution → Solved
+viewSolution s = record { answer = s .answer; lengths = reals (s .lengths); passes = s .passes }
