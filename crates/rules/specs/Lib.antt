@@ -6,3 +6,7 @@ pub mod Shares
 pub mod Minima
 pub mod Solver
 pub mod Tabs
+pub mod Repair
+pub mod Sound
+pub mod Table
+pub mod Spec
