@@ -10,3 +10,9 @@ pub mod Repair
 pub mod Sound
 pub mod Table
 pub mod Spec
+pub mod Target
+pub mod Insert
+pub mod Operations
+pub mod Frame
+pub mod Refusals
+pub mod Examples
