@@ -1,4 +1,4 @@
--- Putting a tile beside another, and taking a pane out. From tree.rs, 651 to 717 (`insert_tile_near`), 719 to 740 (`remove_pane`),
+-- Putting a tile beside another, and taking a pane out. From tree.rs, 651 to 719 (`insert_tile_near`), 721 to 741 (`remove_pane`),
 -- and document 01, 'Operations'.
 -- Definitions only.
 use mathlib.Core.Bool.{Bool, true, false, not, _&&_, cond}

@@ -1,4 +1,4 @@
--- Minima of a split's children. From tree.rs, 1183 to 1197 (`aligned_constraints`, `compact_constraints`), util.rs, 169 to 183
+-- Minima of a split's children. From tree.rs, 1183 to 1197 (`aligned_constraints`, `compact_constraints`), util.rs, 174 to 188
 -- (`split_min_major`), and document 01: minus zero is read as zero ('The arena'), and the alignment ('Repair').
 -- Definitions only.
 use mathlib.Core.Bool.{Bool, true, false, cond}

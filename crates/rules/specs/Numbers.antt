@@ -44,7 +44,7 @@ minimumOk x = finite x && le zero-f x
 abbrev pub shareOk : Float → Bool
 shareOk x = finite x && lt zero-f x
 
--- `is_valid_split_fraction` (util.rs, 219 to 221): the one place that says which fractions are good
+-- `is_valid_split_fraction` (util.rs, 224 to 226): the one place that says which fractions are good
 abbrev pub isValidSplitFraction : Float → Bool
 isValidSplitFraction x = finite x && lt zero-f x && lt x one-f
 

@@ -1,4 +1,4 @@
--- The operations. From tree.rs, 225 to 238 (`apply`), 346 to 362 and 447 to 540 (`apply_inner`, `activate_pane`, `close_pane`, `split_pane`,
+-- The operations. From tree.rs, 225 to 238 (`apply`), 346 to 362, 447 to 505 and 522 to 546 (`apply_inner`, `activate_pane`, `close_pane`, `split_pane`,
 -- `move_pane`, `reorder_tab`), 598 to 626 (`insert_tile_at_target`), and document 01, 'Operations', 'The arena' (slots taken) and 'Refusals' (order):
 -- 4, the Rust's own refusals in its order, 2, 3 at insertion, 11, 3 after repair.
 -- Definitions only.

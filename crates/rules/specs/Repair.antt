@@ -1,4 +1,4 @@
--- Repair of an arena. From tree.rs, 154 to 160 (`record`), 265 to 308 (`normalize_with_report`, `repair`), 752 to 933 (`normalize_node`,
+-- Repair of an arena. From tree.rs, 154 to 160 (`record`), 265 to 308 (`normalize_with_report`, `repair`), 763 to 933 (`normalize_node`,
 -- `normalize_split`, `mark_reachable`), and document 01, 'Repair' and 'The arena'.
 -- The Rust's `visiting` has no part: a tile that is being visited is claimed. Fuel falls from tile to tile; where it is used up every slot is claimed.
 -- Definitions only.

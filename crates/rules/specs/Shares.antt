@@ -1,4 +1,4 @@
--- Shares of a split. From util.rs, 199 to 217 (`repaired_shares`), with its flag and its second list; document 01, 'Repair'.
+-- Shares of a split. From util.rs, 204 to 222 (`repaired_shares`), with its flag and its second list; document 01, 'Repair'.
 -- Definitions only.
 use mathlib.Core.Bool.{Bool, true, false, cond}
 use mathlib.Core.List.{List, [], _∷_, map}

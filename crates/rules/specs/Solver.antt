@@ -1,4 +1,4 @@
--- The lengths of a split's children. From util.rs, 97 to 167 (`solve_lengths_with_min`), in its order of operations, and document 01,
+-- The lengths of a split's children. From util.rs, 95 to 172 (`solve_lengths_with_min`), in its order of operations, and document 01,
 -- 'Solver and frame': the input's limits, and the pass count.
 -- A child's share, minimum, length so far and whether it is fixed stand together, as a Kid; the Rust has four lists.
 -- Sums start from +0. The Rust's `sum` may start from -0, which nothing shows: a sum here is only compared, or divides where it is above zero.

@@ -1,4 +1,4 @@
--- A spec made a tree. From spec.rs, 91 to 167 (`validate_spec`, `validate_pane`), tree.rs, 182 to 192 and 370 to 408 (`from_spec`, `push_spec`),
+-- A spec made a tree. From spec.rs, 95 to 172 (`validate_spec`, `validate_pane`), tree.rs, 182 to 192 and 370 to 408 (`from_spec`, `push_spec`),
 -- and document 01, 'Spec bytes' and 'Refusals': 1, then 2 (over 64 rows), then 3 (a row over 16 children or panes), then the Rust's checks
 -- in preorder, then 3 after repair.
 -- Rows stand in preorder, so the Rust's recursion over a spec is a walk along the rows, each taking its entries off the other sections.

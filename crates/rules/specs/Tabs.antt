@@ -1,4 +1,4 @@
--- Rectangles, the tab bar and the tabs. From kurbo's Rect (`width`, `height`), util.rs, 9 to 95 (`split_tab_bar`, `tab_rects`) and 185 to 197
+-- Rectangles, the tab bar and the tabs. From kurbo's Rect (`width`, `height`), util.rs, 9 to 93 (`split_tab_bar`, `tab_rects`) and 190 to 202
 -- (`major_size`, `major_length`); document 01, 'Solver and frame'.
 -- Definitions only.
 use mathlib.Core.Bool.{Bool, true, false, cond}

@@ -1,4 +1,4 @@
--- Finding: where a pane stands, which split holds a tile, and whether a dock target is good. From tree.rs, 562 to 583 (`validate_target`),
+-- Finding: where a pane stands, which split holds a tile, and whether a dock target is good. From tree.rs, 566 to 582 (`validate_target`),
 -- 1126 to 1180 (`find_pane`, `find_parent`, `contains_pane`, `count_panes`), 88 to 92 (`PaneLocation`), and document 01, 'Operations'.
 -- The Rust pops tiles off `pending`, skipping those it has visited; in a sound tree each is reached once, so what it visits is the reading order.
 -- Definitions only.

@@ -1,5 +1,5 @@
 -- The arena as mathematics: what stands in a slot, with exact lists, and how a TileTree is read as one.
--- From tree.rs, 27 to 37 and 410 to 435 (TileTree, NodeSlot, get_node, set_node, clear_node), and document 01, 'The arena'.
+-- From tree.rs, 27 to 37 and 410 to 431 (TileTree, NodeSlot, get_node, set_node, clear_node), and document 01, 'The arena'.
 -- Definitions only.
 use mathlib.Core.Bool.{Bool, true, false, not, _&&_, _||_, cond}
 use mathlib.Core.Path.{_≡_}
