@@ -54,11 +54,15 @@ abbrev pub sameAction : RepairAction → RepairAction → Bool
 sameAction a b = eqb (actionCode a) (actionCode b) && sameTile (actionTile a) (actionTile b) && eqb (actionPane a) (actionPane b)
 
 abbrev pub addedBy : Bool → RepairAction → List RepairAction → List RepairAction
-addedBy true a as′ = as′
-addedBy false a as′ = as′ ++ a ∷ []
+addedBy true a l = l
+addedBy false a l = l ++ a ∷ []
 
 unfoldable pub added : RepairAction → List RepairAction → List RepairAction
-added a as′ = addedBy (anyOf (sameAction a) as′) a as′
+added a l = addedBy (anyOf (sameAction a) l) a l
+
+abbrev pub addedIf : Bool → RepairAction → List RepairAction → List RepairAction
+addedIf true a l = added a l
+addedIf false a l = l
 
 -- ---- the walk's state: the slots, which are claimed, which panes were seen; beside it the actions
 
@@ -88,8 +92,7 @@ abbrev pub note : RepairAction → Work → Work
 note a w = work (w .state) (added a (w .actions))
 
 abbrev pub noteIf : Bool → RepairAction → Work → Work
-noteIf true a w = note a w
-noteIf false a w = w
+noteIf b a w = work (w .state) (addedIf b a (w .actions))
 
 abbrev pub store : TileId → Node → Work → Work
 store i n w = work (state (setNode i n (w .state .nodes)) (w .state .claimed) (w .state .panes)) (w .actions)

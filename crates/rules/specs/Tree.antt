@@ -150,7 +150,7 @@ readingFrom ns r = reading steps ns (r ∷ [])
 abbrev pub Occupied : Arena → ℕ → Type 0
 Occupied a i = T (not (isEmpty (getD (a .nodes) i empty)))
 
-abbrev pub Member : TileId → List TileId → Type 0
+abbrev pub Member : {A : Type 0} → A → List A → Type 0
 Member x [] = ⊥
 Member x (y ∷ ys) = (x ≡ y) ⊎ Member x ys
 
