@@ -70,6 +70,12 @@ Set ns a e = Least e × (melts a (e .minimum) (nodeAt ns (e .child)) ≡ false)
 abbrev pub Fine : List Node → Axis → Entry → Type 0
 Fine ns a e = Shared e × Set ns a e
 
+pub fine-shared : (ns : List Node) (a : Axis) (es : List Entry) → All (Fine ns a) es → All Shared es
+fine-shared ns a = all-map (λ x q. q .0)
+
+pub fine-least : (ns : List Node) (a : Axis) (es : List Entry) → All (Fine ns a) es → All Least es
+fine-least ns a = all-map (λ x q. q .1 .0)
+
 pub record IsSplit (ns : List Node) (i : TileId) (a : Axis) (es : List Entry) : Type 0 where
   pub inside : i .slot < 64
   pub is : nodeAt ns i ≡ stored a es

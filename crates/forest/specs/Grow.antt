@@ -25,7 +25,7 @@ use Rattle.rules.specs.declared.model.TabBarPlacement.{TabBarPlacement}
 use Rattle.rules.specs.declared.model.RepairAction.{RepairAction}
 use Rattle.forest.specs.Lists.{All, Distinct, never, all-map, all-append, all-left, contains-false, distinct-append, free, set-mono, set-back, free-set}
 use Rattle.forest.specs.Codec.{stored, reshared, Shared, Least, read-back, start-least, stored-fixed, fixed-shared}
-use Rattle.forest.specs.Forest.{Forest, nil, leaf, node, roots, tiles, shown, _⧺_, reshare, Leafy, IsLeaf, IsSplit, Set, Fine, Holds, Same, roots-append, tiles-append, shown-append, holds-append, roots-reshare, tiles-reshare, shown-reshare, holds-reshare, all-roots, set-same, holds-same}
+use Rattle.forest.specs.Forest.{Forest, nil, leaf, node, roots, tiles, shown, _⧺_, reshare, Leafy, IsLeaf, IsSplit, Set, Fine, fine-shared, fine-least, Holds, Same, roots-append, tiles-append, shown-append, holds-append, roots-reshare, tiles-reshare, shown-reshare, holds-reshare, all-roots, set-same, holds-same}
 
 abbrev pub Good : State → Type 0
 Good w = (length (w .claimed) ≡ 64) × (length (w .nodes) ≡ 64)
@@ -379,12 +379,6 @@ axis-same Horizontal Horizontal e = refl
 axis-same Horizontal Vertical e = never (sym e)
 axis-same Vertical Horizontal e = never (sym e)
 axis-same Vertical Vertical e = refl
-
-fine-shared : (ns : List Node) (a : Axis) (es : List Entry) → All (Fine ns a) es → All Shared es
-fine-shared ns a = all-map (λ x q. q .0)
-
-fine-least : (ns : List Node) (a : Axis) (es : List Entry) → All (Fine ns a) es → All Least es
-fine-least ns a = all-map (λ x q. q .1 .0)
 
 set-reshared : (ns : List Node) (h : Float → Float) (a b : Axis) → a ≡ b → (es : List Entry) → All (Fine ns a) es → All (Set ns b) (map (reshared h) es)
 set-reshared ns h a b q [] p = tt

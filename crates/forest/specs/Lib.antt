@@ -3,3 +3,5 @@ pub mod Mended
 pub mod Codec
 pub mod Forest
 pub mod Grow
+pub mod Again
+pub mod Settled
