@@ -264,7 +264,7 @@ names (node i s m a c r) = i ∷ (names c ++ names r)
 abbrev pub heads : Forest → List TileId
 heads f = childrenOf (roots f)
 
-leafy-kids : (n : Node) (ps : List ℕ) → Leafy n ps → kidsOf n ≡ []
+pub leafy-kids : (n : Node) (ps : List ℕ) → Leafy n ps → kidsOf n ≡ []
 leafy-kids empty ps l = refl
 leafy-kids (pane p) ps l = refl
 leafy-kids (tabs b a qs) ps l = refl

@@ -5,3 +5,4 @@ pub mod Forest
 pub mod Grow
 pub mod Again
 pub mod Settled
+pub mod Reach
