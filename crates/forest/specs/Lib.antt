@@ -6,3 +6,4 @@ pub mod Grow
 pub mod Again
 pub mod Settled
 pub mod Reach
+pub mod Soundness

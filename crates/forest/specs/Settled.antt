@@ -219,7 +219,7 @@ module _ (ns : List Node) (r : TileId) (l : Left) (T : Tidy ns r l) where
   quiet : sweepActions 0 xs ns [] ≡ []
   quiet = keep-actions xs ns 0 [] (λ i e. ap (λ (j : ℕ). isReached j xs) (let q : 0 + i ≡ i = omega arith in q) ∙ reached-in i xs (rw xs-slots (occupied-in i e)))
 
-  abbrev unchanged : Normal
+  abbrev pub unchanged : Normal
   unchanged = record { root = r; nodes = ns; actions = [] }
 
   -- from the walk's answer, its slots and its actions
