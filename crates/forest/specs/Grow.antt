@@ -44,6 +44,7 @@ pub record Grown (w v : State) (f : Forest) : Type 0 where
   pub apart : Distinct (tiles f)
   pub room : length (tiles f) + free (v .claimed) ≤ free (w .claimed)
   pub keep : (j : ℕ) → getD (w .claimed) j false ≡ true → (getD (v .claimed) j false ≡ true) × Same (w .nodes) (v .nodes) j
+  pub still : (j : ℕ) → getD (v .claimed) j false ≡ false → Same (w .nodes) (v .nodes) j
   pub sees : v .panes ≡ w .panes ++ shown f
   pub once : Distinct (w .panes) → Distinct (v .panes)
 
@@ -83,6 +84,7 @@ grown-none w =
       apart = tt;
       room = omega arith;
       keep = λ j e. (e, refl);
+      still = λ j e. refl;
       sees = sym (append-nil (w .panes));
       once = λ d. d;
     }
@@ -99,6 +101,7 @@ grown-like w v f g t q h G =
       apart = rw t (G .apart);
       room = rw t (G .room);
       keep = G .keep;
+      still = G .still;
       sees = rw q (G .sees);
       once = G .once;
     }
@@ -118,11 +121,12 @@ grown-under w v i s m a c G =
       apart = rw (append-nil (tiles c)) at (G .apart .1);
       room = omega (arith, G .room, length-append (tiles c) []);
       keep = G .keep;
+      still = G .still;
       sees = rw (append-nil (shown c)) at (G .sees);
       once = G .once;
     }
 
-back : (w v : State) (f : Forest) → Grown w v f → (j : ℕ) → getD (v .claimed) j false ≡ false → getD (w .claimed) j false ≡ false
+pub back : (w v : State) (f : Forest) → Grown w v f → (j : ℕ) → getD (v .claimed) j false ≡ false → getD (w .claimed) j false ≡ false
 back w v f G j e = go (getD (w .claimed) j false) refl
   where
     go : (b : Bool) → getD (w .claimed) j false ≡ b → getD (w .claimed) j false ≡ false
@@ -144,17 +148,19 @@ grown-chain w v u f g A B =
           (all-map (λ y o. all-map (λ x t. differ (v .claimed) x y t o) (tiles f) (A .taken)) (tiles g) (B .fresh)));
       room = rw (tiles-append f g) (omega (arith, length-append (tiles f) (tiles g), A .room, B .room));
       keep = λ j e. (B .keep j (A .keep j e .0) .0, B .keep j (A .keep j e .0) .1 ∙ A .keep j e .1);
+      still = λ j e. B .still j e ∙ A .still j (back v u g B j e);
       sees = B .sees ∙ ap (λ (l : List ℕ). l ++ shown g) (A .sees) ∙ append-assoc (w .panes) (shown f) (shown g)
           ∙ ap (λ (l : List ℕ). w .panes ++ l) (sym (shown-append f g));
       once = λ d. B .once (A .once d);
     }
 
-good-after : (w v : State) (f : Forest) → Good w → Grown w v f → Good v
+pub good-after : (w v : State) (f : Forest) → Good w → Grown w v f → Good v
 good-after w v f g G = (G .long ∙ g .0, G .size ∙ g .1)
 
 -- a slot that was not claimed and is none of the forest's is written
-grown-set : (w v : State) (f : Forest) (j : ℕ) (n : Node) → getD (w .claimed) j false ≡ false → All (λ k. k ≢ j) (tiles f) → Grown w v f → Grown w (written j n v) f
-grown-set w v f j n e o G =
+grown-set : (w v : State) (f : Forest) (j : ℕ) (n : Node) → getD (w .claimed) j false ≡ false → getD (v .claimed) j false ≡ true → All (λ k. k ≢ j) (tiles f) → Grown w v f
+    → Grown w (written j n v) f
+grown-set w v f j n e t′ o G =
     record {
       long = G .long;
       size = length-set (v .nodes) j n ∙ G .size;
@@ -164,6 +170,7 @@ grown-set w v f j n e o G =
       apart = G .apart;
       room = G .room;
       keep = λ k t. (G .keep k t .0, getD-set-other (v .nodes) j k n empty (λ q. differ (w .claimed) k j t e (sym q)) ∙ G .keep k t .1);
+      still = λ k q. getD-set-other (v .nodes) j k n empty (differ (v .claimed) j k t′ q) ∙ G .still k q;
       sees = G .sees;
       once = G .once;
     }
@@ -238,6 +245,7 @@ module _ (w : State) (good : Good w) (i : TileId) (h : i .slot < 64) (e : getD (
         apart = G .apart;
         room = omega (arith, G .room, claim-free);
         keep = λ j t. G .keep j (set-mono (w .claimed) (i .slot) j t);
+        still = G .still;
         sees = G .sees;
         once = G .once;
       }
@@ -248,7 +256,7 @@ module _ (w : State) (good : Good w) (i : TileId) (h : i .slot < 64) (e : getD (
 
     -- the tile's own slot is written
     grown-own : (n : Node) → Grown w (written (i .slot) n v) f
-    grown-own n = grown-set w v f (i .slot) n e others (grown-claim v f G)
+    grown-own n = grown-set w v f (i .slot) n e (G .keep (i .slot) claim-set .0) others (grown-claim v f G)
 
     at-own : (n : Node) → getD (set (v .nodes) (i .slot) n) (i .slot) empty ≡ n
     at-own n = getD-set-same (v .nodes) (i .slot) n empty (omega (arith, G .size, good .1))
@@ -274,6 +282,7 @@ module _ (w : State) (good : Good w) (i : TileId) (h : i .slot < 64) (e : getD (
           apart = rw (append-nil (tiles f)) (others, B .apart);
           room = rw (append-nil (tiles f)) (omega (arith, G .room, claim-free));
           keep = B .keep;
+          still = B .still;
           sees = rw (append-nil (shown f)) (B .sees);
           once = B .once;
         }
@@ -298,6 +307,7 @@ module _ (w : State) (good : Good w) (i : TileId) (h : i .slot < 64) (e : getD (
         apart = (tt, tt);
         room = omega (arith, claim-free);
         keep = λ j t. (set-mono (w .claimed) (i .slot) j t, getD-set-other (w .nodes) (i .slot) j n empty (λ z. differ (w .claimed) j (i .slot) t e (sym z)));
+        still = λ j q. getD-set-other (w .nodes) (i .slot) j n empty (differ (set (w .claimed) (i .slot) true) (i .slot) j claim-set q);
         sees = rw (append-nil ps) refl;
         once = once;
       }
@@ -416,7 +426,7 @@ module _ (a : Axis) (e : Entry) (cl : Least e) (r : Run) (w : State) (u : Work) 
     place-branch true q = (
       under,
       ap (λ (l : List Entry). r .list ++ l) melted-is,
-      grown-set w (u .state) under (j .slot) empty (G .fresh .0) (rw (tiles-reshare (mul binary64 (e .share)) c) away)
+      grown-set w (u .state) under (j .slot) empty (G .fresh .0) (G .taken .0) (rw (tiles-reshare (mul binary64 (e .share)) c) away)
           (grown-reshare w (u .state) c (mul binary64 (e .share)) (grown-under w (u .state) j zero-f zero-f y c G)),
       set-same (u .state .nodes) (set (u .state .nodes) (j .slot) empty) a (roots under)
           (all-map (λ x n. getD-set-other (u .state .nodes) (j .slot) (x .child .slot) empty empty n) (roots under) (all-roots (λ k. k ≢ j .slot) under (rw (tiles-reshare (mul binary64 (e .share)) c) away)))
@@ -446,10 +456,10 @@ abbrev pub Works : (TileId → Work → Out) → Type 0
 Works again = (i : TileId) (w : Work) → Good (w .state) → Keeps (w .state) (again i w)
 
 module _ (again : TileId → Work → Out) (g : Works again) (a : Axis) where
-  abbrev After : Run → Run → Type 0
+  abbrev pub After : Run → Run → Type 0
   After r t = (f : Forest) × (t .list ≡ r .list ++ roots f) × Grown (r .left .state) (t .left .state) f × All (Set (t .left .state .nodes) a) (roots f)
 
-  kid-keeps : (e : Entry) (r : Run) → Good (r .left .state) → Least e → After r (placeOut a e r (again (e .child) (r .left)))
+  pub kid-keeps : (e : Entry) (r : Run) → Good (r .left .state) → Least e → After r (placeOut a e r (again (e .child) (r .left)))
   kid-keeps e r good cl =
       let o = again (e .child) (r .left) in
       let (l, q, A) = g (e .child) (r .left) good in

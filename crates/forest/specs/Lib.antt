@@ -7,3 +7,4 @@ pub mod Again
 pub mod Settled
 pub mod Reach
 pub mod Soundness
+pub mod Actions

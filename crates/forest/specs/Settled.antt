@@ -116,7 +116,7 @@ module _ (ns : List Node) (r : TileId) (l : Left) (k : keptOf l ≡ some r) (h :
   slots-are = ap slots reads ∙ names-slots (stem l)
 
 module _ (ns : List Node) (size : length ns ≡ 64) (r : TileId) (l : Left) (k : keptOf l ≡ some r) (h : Holds ns (stem l)) (apart : Distinct (tiles (stem l)))
-  (panes : Distinct (shown (stem l))) (few : length (tiles (stem l)) ≤ 64) where
+    (panes : Distinct (shown (stem l))) (few : length (tiles (stem l)) ≤ 64) where
   abbrev left : List Node
   left = swept 0 (readingFrom ns r) ns
 
