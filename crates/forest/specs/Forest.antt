@@ -2,10 +2,10 @@
 -- Assumes nothing.
 use mathlib.Core.Path.{_≡_, refl, sym, ap, subst, _∙_}
 use mathlib.Core.Logic.{_≢_}
-use mathlib.Core.Bool.{Bool, true, false, not}
+use mathlib.Core.Bool.{Bool, true, false, not, _||_, or-assoc}
 use mathlib.Core.List.{List, [], _∷_, _++_, map, append-assoc}
 use Prim.Native.Nat.{ℕ, zero, suc, _+_, _≤_, _<_}
-use lib.Dec.{T}
+use lib.Dec.{T, ltb}
 use lib.ListN.{length, getD}
 use lib.Ieee.{Float}
 use Rattle.rules.specs.Tree.{Node, empty, pane, tabs, split, nodeAt, isEmpty}
@@ -49,6 +49,15 @@ abbrev pub reshare : (Float → Float) → Forest → Forest
 reshare h nil = nil
 reshare h (leaf i s m ps r) = leaf i (h s) m ps (reshare h r)
 reshare h (node i s m a c r) = node i (h s) m a c (reshare h r)
+
+-- a split of it has more than 16 children; and the same, or it has more than 16 roots itself
+abbrev pub wide : Forest → Bool
+wide nil = false
+wide (leaf i s m ps r) = wide r
+wide (node i s m a c r) = (ltb 16 (length (roots c)) || wide c) || wide r
+
+abbrev pub broad : Forest → Bool
+broad f = ltb 16 (length (roots f)) || wide f
 
 -- ---- the slots hold a forest
 
@@ -109,6 +118,16 @@ pub holds-append : (ns : List Node) (f g : Forest) → Holds ns f → Holds ns g
 holds-append ns nil g a b = b
 holds-append ns (leaf i s m ps r) g a b = (a .0, holds-append ns r g (a .1) b)
 holds-append ns (node i s m x c r) g a b = (a .0, a .1, holds-append ns r g (a .2) b)
+
+pub wide-append : (f g : Forest) → wide (f ⧺ g) ≡ (wide f || wide g)
+wide-append nil g = refl
+wide-append (leaf i s m ps r) g = wide-append r g
+wide-append (node i s m a c r) g = ap (λ (b : Bool). (ltb 16 (length (roots c)) || wide c) || b) (wide-append r g) ∙ sym (or-assoc (ltb 16 (length (roots c)) || wide c) (wide r) (wide g))
+
+pub wide-reshare : (h : Float → Float) (f : Forest) → wide (reshare h f) ≡ wide f
+wide-reshare h nil = refl
+wide-reshare h (leaf i s m ps r) = wide-reshare h r
+wide-reshare h (node i s m a c r) = ap (λ (b : Bool). (ltb 16 (length (roots c)) || wide c) || b) (wide-reshare h r)
 
 pub roots-reshare : (h : Float → Float) (f : Forest) → roots (reshare h f) ≡ map (reshared h) (roots f)
 roots-reshare h nil = refl

@@ -2,14 +2,14 @@
 -- Assumes nothing.
 use mathlib.Core.Path.{_≡_, refl, sym, ap, subst, _∙_}
 use mathlib.Core.Logic.{_≢_}
-use mathlib.Core.Bool.{Bool, true, false, not, _&&_, _||_}
+use mathlib.Core.Bool.{Bool, true, false, not, _&&_, _||_, or-false}
 use mathlib.Core.List.{List, [], _∷_, _++_, map, append-assoc, append-nil}
 use mathlib.Core.Option.{Option, none, some}
 use Prim.Native.Nat.{ℕ, zero, suc, _+_, _≤_, _<_}
 use native.Mathlib.Omega.{arith}
 use borrow.Author.Tests.{leb-false}
-use lib.Dec.{leb, eqb}
-use lib.ListN.{length, getD, getElem?, set, length-set, length-append}
+use lib.Dec.{leb, ltb, eqb}
+use lib.ListN.{length, getD, getElem?, set, length-set, length-append, length-map}
 use lib.Seq.{getD-set-same, getD-set-other}
 use lib.Ieee.{Float, binary64, mul, eq}
 use Rattle.rules.specs.Numbers.{zero-f}
@@ -25,7 +25,7 @@ use Rattle.rules.specs.declared.model.TabBarPlacement.{TabBarPlacement}
 use Rattle.rules.specs.declared.model.RepairAction.{RepairAction}
 use Rattle.forest.specs.Lists.{All, Distinct, never, all-map, all-append, all-left, contains-false, distinct-append, free, set-mono, set-back, free-set}
 use Rattle.forest.specs.Codec.{stored, reshared, Shared, Least, read-back, start-least, stored-fixed, fixed-shared}
-use Rattle.forest.specs.Forest.{Forest, nil, leaf, node, roots, tiles, shown, _⧺_, reshare, Leafy, IsLeaf, IsSplit, Set, Fine, fine-shared, fine-least, Holds, Same, roots-append, tiles-append, shown-append, holds-append, roots-reshare, tiles-reshare, shown-reshare, holds-reshare, all-roots, set-same, holds-same}
+use Rattle.forest.specs.Forest.{Forest, nil, leaf, node, roots, tiles, shown, _⧺_, reshare, wide, broad, wide-reshare, Leafy, IsLeaf, IsSplit, Set, Fine, fine-shared, fine-least, Holds, Same, roots-append, tiles-append, shown-append, holds-append, roots-reshare, tiles-reshare, shown-reshare, holds-reshare, all-roots, set-same, holds-same}
 
 abbrev pub Good : State → Type 0
 Good w = (length (w .claimed) ≡ 64) × (length (w .nodes) ≡ 64)
@@ -394,19 +394,20 @@ set-reshared : (ns : List Node) (h : Float → Float) (a b : Axis) → a ≡ b �
 set-reshared ns h a b q [] p = tt
 set-reshared ns h a b q (x ∷ xs) p = ((p .0 .1 .0, subst (λ (y : Axis). melts y (x .minimum) (nodeAt ns (x .child)) ≡ false) q (p .0 .1 .1)), set-reshared ns h a b q xs (p .1))
 
--- after a child of the run r, from the state w: a forest more
-abbrev Placed : Axis → Run → State → Run → Type 0
-Placed a r w t = (f : Forest) × (t .list ≡ r .list ++ roots f) × Grown w (t .left .state) f × All (Set (t .left .state .nodes) a) (roots f)
+-- after a child of the run r, of which b says whether it is wide, from the state w: a forest more, broad where the child is wide
+abbrev pub Placed : Axis → Run → State → Bool → Run → Type 0
+Placed a r w b t = (f : Forest) × (t .list ≡ r .list ++ roots f) × Grown w (t .left .state) f × All (Set (t .left .state .nodes) a) (roots f) × (b ≡ true → broad f ≡ true)
 
 module _ (a : Axis) (e : Entry) (cl : Least e) (r : Run) (w : State) (u : Work) where
-  place-leaf : (j : TileId) (ps : List ℕ) → Grown w (u .state) (leaf j zero-f zero-f ps nil) → Placed a r w (place a e (some j) r u)
+  place-leaf : (j : TileId) (ps : List ℕ) → Grown w (u .state) (leaf j zero-f zero-f ps nil) → Placed a r w false (place a e (some j) r u)
   place-leaf j ps G =
       let dull = leafy-melts a (e .minimum) (nodeAt (u .state .nodes) j) ps (G .holds .0 .leafy) in
-      subst (λ (b : Bool). Placed a r w (placeBy b e j (nodeAt (u .state .nodes) j) r u)) (sym dull) (
+      subst (λ (b : Bool). Placed a r w false (placeBy b e j (nodeAt (u .state .nodes) j) r u)) (sym dull) (
         leaf j (e .share) (e .minimum) ps nil,
         refl,
         grown-like w (u .state) (leaf j zero-f zero-f ps nil) (leaf j (e .share) (e .minimum) ps nil) refl refl (G .holds) G,
         ((cl, dull), tt),
+        λ q. never (sym q),
       )
 
   module _ (j : TileId) (y : Axis) (c : Forest) (G : Grown w (u .state) (node j zero-f zero-f y c nil)) where
@@ -421,7 +422,7 @@ module _ (a : Axis) (e : Entry) (cl : Least e) (r : Run) (w : State) (u : Work) 
     away : All (λ k. k ≢ j .slot) (tiles c)
     away = all-left (λ k. k ≢ j .slot) (tiles c) [] (G .apart .0)
 
-    place-branch : (b : Bool) → melts a (e .minimum) (stored y (roots c)) ≡ b → Placed a r w (placeBy b e j (stored y (roots c)) r u)
+    place-branch : (b : Bool) → melts a (e .minimum) (stored y (roots c)) ≡ b → Placed a r w (wide (node j zero-f zero-f y c nil)) (placeBy b e j (stored y (roots c)) r u)
     unfolding under
     place-branch true q = (
       under,
@@ -432,21 +433,24 @@ module _ (a : Axis) (e : Entry) (cl : Least e) (r : Run) (w : State) (u : Work) 
           (all-map (λ x n. getD-set-other (u .state .nodes) (j .slot) (x .child .slot) empty empty n) (roots under) (all-roots (λ k. k ≢ j .slot) under (rw (tiles-reshare (mul binary64 (e .share)) c) away)))
           (rw (roots-reshare (mul binary64 (e .share)) c)
           (set-reshared (u .state .nodes) (mul binary64 (e .share)) y a (axis-same y a (and-left (sameAxis y a) (eq (e .minimum) zero-f) q)) (roots c) (G .holds .0 .fine))),
+      λ k. (λ z. ltb 16 (length (roots-reshare (mul binary64 (e .share)) c z)) || wide-reshare (mul binary64 (e .share)) c z)
+          ∙ ap (λ (n : ℕ). ltb 16 n || wide c) (length-map (roots c) (reshared (mul binary64 (e .share)))) ∙ sym (or-false (broad c)) ∙ k,
     )
     place-branch false q = (
       node j (e .share) (e .minimum) y c nil,
       refl,
       grown-like w (u .state) (node j zero-f zero-f y c nil) (node j (e .share) (e .minimum) y c nil) refl refl (G .holds) G,
       ((cl, ap (melts a (e .minimum)) (G .holds .0 .is) ∙ q), tt),
+      λ k. k,
     )
 
-    place-split : Placed a r w (place a e (some j) r u)
+    place-split : Placed a r w (wide (node j zero-f zero-f y c nil)) (place a e (some j) r u)
     place-split =
-        subst (λ (n : Node). Placed a r w (placeBy (melts a (e .minimum) n) e j n r u)) (sym (G .holds .0 .is))
+        subst (λ (n : Node). Placed a r w (wide (node j zero-f zero-f y c nil)) (placeBy (melts a (e .minimum) n) e j n r u)) (sym (G .holds .0 .is))
         (place-branch (melts a (e .minimum) (stored y (roots c))) refl)
 
-  placed : (l : Left) → Grown w (u .state) (stem l) → Placed a r w (place a e (keptOf l) r u)
-  placed nothing G = (nil, sym (append-nil (r .list)), G, tt)
+  pub placed : (l : Left) → Grown w (u .state) (stem l) → Placed a r w (wide (stem l)) (place a e (keptOf l) r u)
+  placed nothing G = (nil, sym (append-nil (r .list)), G, tt, λ q. never (sym q))
   placed (group j ps) G = place-leaf j ps G
   placed (branch j y c) G = place-split j y c G
 
@@ -463,7 +467,8 @@ module _ (again : TileId → Work → Out) (g : Works again) (a : Axis) where
   kid-keeps e r good cl =
       let o = again (e .child) (r .left) in
       let (l, q, A) = g (e .child) (r .left) good in
-      subst (λ (k : Option TileId). After r (place a e k r (o .work))) (sym q) (placed a e cl r (r .left .state) (o .work) l A)
+      let (f, p, B, s, _) = placed a e cl r (r .left .state) (o .work) l A in
+      subst (λ (k : Option TileId). After r (place a e k r (o .work))) (sym q) (f, p, B, s)
 
   kids-keep : (es : List Entry) (r : Run) → Good (r .left .state) → All Least es → After r (kidsFrom again a es r)
   unfolding kidsFrom

@@ -8,3 +8,4 @@ pub mod Settled
 pub mod Reach
 pub mod Soundness
 pub mod Actions
+pub mod Fuel
