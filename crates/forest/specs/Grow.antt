@@ -90,7 +90,7 @@ grown-none w =
     }
 
 -- another forest of the same tiles and panes
-grown-like : (w v : State) (f g : Forest) → tiles g ≡ tiles f → shown g ≡ shown f → Holds (v .nodes) g → Grown w v f → Grown w v g
+pub grown-like : (w v : State) (f g : Forest) → tiles g ≡ tiles f → shown g ≡ shown f → Holds (v .nodes) g → Grown w v f → Grown w v g
 grown-like w v f g t q h G =
     record {
       long = G .long;
@@ -136,7 +136,7 @@ back w v f G j e = go (getD (w .claimed) j false) refl
 differ : (cs : List Bool) (i j : ℕ) → getD cs i false ≡ true → getD cs j false ≡ false → j ≢ i
 differ cs i j t u e = never (sym t ∙ ap (λ (k : ℕ). getD cs k false) (sym e) ∙ u)
 
-grown-chain : (w v u : State) (f g : Forest) → Grown w v f → Grown v u g → Grown w u (f ⧺ g)
+pub grown-chain : (w v u : State) (f g : Forest) → Grown w v f → Grown v u g → Grown w u (f ⧺ g)
 grown-chain w v u f g A B =
     record {
       long = B .long ∙ A .long;
@@ -222,7 +222,7 @@ active-lt (some p) q qs = omega (arith, position-lt 0 (eqb p) (q ∷ qs) (omega 
 -- ---- a tile that is claimed
 
 module _ (w : State) (good : Good w) (i : TileId) (h : i .slot < 64) (e : getD (w .claimed) (i .slot) false ≡ false) where
-  abbrev claimed : State
+  abbrev pub claimed : State
   claimed = state (w .nodes) (set (w .claimed) (i .slot) true) (w .panes)
 
   claim-set : getD (set (w .claimed) (i .slot) true) (i .slot) false ≡ true
@@ -255,7 +255,7 @@ module _ (w : State) (good : Good w) (i : TileId) (h : i .slot < 64) (e : getD (
     others = all-map (λ j o. differ (set (w .claimed) (i .slot) true) (i .slot) j claim-set o) (tiles f) (G .fresh)
 
     -- the tile's own slot is written
-    grown-own : (n : Node) → Grown w (written (i .slot) n v) f
+    pub grown-own : (n : Node) → Grown w (written (i .slot) n v) f
     grown-own n = grown-set w v f (i .slot) n e (G .keep (i .slot) claim-set .0) others (grown-claim v f G)
 
     at-own : (n : Node) → getD (set (v .nodes) (i .slot) n) (i .slot) empty ≡ n
@@ -340,7 +340,7 @@ module _ (w : State) (good : Good w) (i : TileId) (h : i .slot < 64) (e : getD (
   -- ---- a split: none kept, one kept, or more
 
   module _ (a : Axis) where
-    grown-many : (v : State) (f : Forest) → Grown claimed v f → All (Set (v .nodes) a) (roots f) → 2 ≤ length (roots (reshare fixShare f))
+    pub grown-many : (v : State) (f : Forest) → Grown claimed v f → All (Set (v .nodes) a) (roots f) → 2 ≤ length (roots (reshare fixShare f))
         → Grown w (written (i .slot) (split a (childrenOf (roots f)) (repairedShares (length (roots f)) (sharesOf (roots f))) (compactConstraints (minimaOf (roots f)))) v) (node i zero-f zero-f a (reshare fixShare f) nil)
     grown-many v f G s two =
         subst (λ (n : Node). Grown w (written (i .slot) n v) (node i zero-f zero-f a (reshare fixShare f) nil))
@@ -367,7 +367,7 @@ module _ (w : State) (good : Good w) (i : TileId) (h : i .slot < 64) (e : getD (
     split-keeps u old b (node j x m y c (node j′ x′ m′ y′ c′ r)) G s =
         let f = node j x m y c (node j′ x′ m′ y′ c′ r) in (branch i a (reshare fixShare f), refl, grown-many (u .state) f G s (omega arith))
 
-    split-run : (r : Run) (old : List Float) (f : Forest) → r .list ≡ roots f → Grown claimed (r .left .state) f → All (Set (r .left .state .nodes) a) (roots f)
+    pub split-run : (r : Run) (old : List Float) (f : Forest) → r .list ≡ roots f → Grown claimed (r .left .state) f → All (Set (r .left .state .nodes) a) (roots f)
         → Keeps w (splitDone i a old r)
     split-run r old f q G s =
         subst (λ (l : List Entry). Keeps w (splitDone i a old (run l (r .moved) (r .left)))) (sym q) (split-keeps (r .left) old (r .moved) f G s)
@@ -470,7 +470,7 @@ module _ (again : TileId → Work → Out) (g : Works again) (a : Axis) where
       let (f, p, B, s, _) = placed a e cl r (r .left .state) (o .work) l A in
       subst (λ (k : Option TileId). After r (place a e k r (o .work))) (sym q) (f, p, B, s)
 
-  kids-keep : (es : List Entry) (r : Run) → Good (r .left .state) → All Least es → After r (kidsFrom again a es r)
+  pub kids-keep : (es : List Entry) (r : Run) → Good (r .left .state) → All Least es → After r (kidsFrom again a es r)
   unfolding kidsFrom
   kids-keep [] r good cl = (nil, sym (append-nil (r .list)), grown-none (r .left .state), tt)
   kids-keep (e ∷ es) r good cl =

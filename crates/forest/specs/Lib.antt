@@ -9,3 +9,4 @@ pub mod Reach
 pub mod Soundness
 pub mod Actions
 pub mod Fuel
+pub mod Wide

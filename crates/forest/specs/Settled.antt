@@ -171,15 +171,15 @@ module _ (ns : List Node) (size : length ns ≡ 64) (r : TileId) where
     panes-apart : Distinct (shown (stem l))
     panes-apart = subst Distinct (G .sees) (G .once tt)
 
-    tidied : (s : TileId) → keptOf l ≡ some s → Settled (swept 0 (readingFrom (o .work .state .nodes) s) (o .work .state .nodes)) s
-    tidied s k = inl (l, tidy-left (o .work .state .nodes) (G .size ∙ size) s l k (G .holds) (G .apart) panes-apart few)
+    pub tidied : (s : TileId) → keptOf l ≡ some s → Tidy (swept 0 (readingFrom (o .work .state .nodes) s) (o .work .state .nodes)) s l
+    tidied s k = tidy-left (o .work .state .nodes) (G .size ∙ size) s l k (G .holds) (G .apart) panes-apart few
 
   settled-by : (free : List ℕ) → All (λ i. i < 64) free → (k : Option TileId) (l : Left) → k ≡ keptOf l → Grown (begin ns .state) (o .work .state) (stem l)
       → (n : Normal) → rooted free k (o .work) ≡ some n → Settled (n .nodes) (n .root)
   settled-by free h (some s) l q G n e =
       let x = sweep s (o .work .state .nodes) (o .work .actions) in
       let same : x ≡ n = cc in
-      subst (λ (m : Normal). Settled (m .nodes) (m .root)) same (tidied l G s (sym q))
+      subst (λ (m : Normal). Settled (m .nodes) (m .root)) same (inl (l, tidied l G s (sym q)))
   settled-by [] h none l q G n e = absurd (let z : _≡_ {A = ℕ} 0 1 = cc in omega arith)
   settled-by (i ∷ is) h none l q G n e =
       let x = sweep (tile i) (setNode (tile i) emptyGroup (o .work .state .nodes)) (o .work .actions) in
