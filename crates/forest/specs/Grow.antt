@@ -23,7 +23,7 @@ use Rattle.rules.specs.declared.model.Axis.{Axis}
 use Rattle.rules.specs.declared.model.Axis.the-variants.{Horizontal, Vertical}
 use Rattle.rules.specs.declared.model.TabBarPlacement.{TabBarPlacement}
 use Rattle.rules.specs.declared.model.RepairAction.{RepairAction}
-use Rattle.forest.specs.Lists.{All, Distinct, never, all-map, all-append, all-left, contains-false, distinct-append, free, set-mono, set-back, free-set}
+use Rattle.forest.specs.Lists.{All, Distinct, never, all-map, all-append, all-left, all-right, contains-false, distinct-append, free, set-mono, set-back, free-set}
 use Rattle.forest.specs.Codec.{stored, reshared, Shared, Least, read-back, start-least, stored-fixed, fixed-shared}
 use Rattle.forest.specs.Forest.{Forest, nil, leaf, node, roots, tiles, shown, _⧺_, reshare, wide, broad, wide-reshare, Leafy, IsLeaf, IsSplit, Set, Fine, fine-shared, fine-least, Holds, Same, roots-append, tiles-append, shown-append, holds-append, roots-reshare, tiles-reshare, shown-reshare, holds-reshare, all-roots, set-same, holds-same}
 
@@ -45,6 +45,7 @@ pub record Grown (w v : State) (f : Forest) : Type 0 where
   pub room : length (tiles f) + free (v .claimed) ≤ free (w .claimed)
   pub keep : (j : ℕ) → getD (w .claimed) j false ≡ true → (getD (v .claimed) j false ≡ true) × Same (w .nodes) (v .nodes) j
   pub still : (j : ℕ) → getD (v .claimed) j false ≡ false → Same (w .nodes) (v .nodes) j
+  pub spent : (j : ℕ) → getD (w .claimed) j false ≡ false → getD (v .claimed) j false ≡ true → All (λ k. j ≢ k) (tiles f) → getD (v .nodes) j empty ≡ empty
   pub sees : v .panes ≡ w .panes ++ shown f
   pub once : Distinct (w .panes) → Distinct (v .panes)
 
@@ -85,6 +86,7 @@ grown-none w =
       room = omega arith;
       keep = λ j e. (e, refl);
       still = λ j e. refl;
+      spent = λ j e t o. never (sym t ∙ e);
       sees = sym (append-nil (w .panes));
       once = λ d. d;
     }
@@ -102,29 +104,13 @@ grown-like w v f g t q h G =
       room = rw t (G .room);
       keep = G .keep;
       still = G .still;
+      spent = λ j e o a. G .spent j e o (rw t at a);
       sees = rw q (G .sees);
       once = G .once;
     }
 
 grown-reshare : (w v : State) (f : Forest) (h : Float → Float) → Grown w v f → Grown w v (reshare h f)
 grown-reshare w v f h G = grown-like w v f (reshare h f) (tiles-reshare h f) (shown-reshare h f) (holds-reshare h (v .nodes) f (G .holds)) G
-
--- a split that is melted leaves what was under it
-grown-under : (w v : State) (i : TileId) (s m : Float) (a : Axis) (c : Forest) → Grown w v (node i s m a c nil) → Grown w v c
-grown-under w v i s m a c G =
-    record {
-      long = G .long;
-      size = G .size;
-      holds = G .holds .1;
-      fresh = rw (append-nil (tiles c)) at (G .fresh .1);
-      taken = rw (append-nil (tiles c)) at (G .taken .1);
-      apart = rw (append-nil (tiles c)) at (G .apart .1);
-      room = omega (arith, G .room, length-append (tiles c) []);
-      keep = G .keep;
-      still = G .still;
-      sees = rw (append-nil (shown c)) at (G .sees);
-      once = G .once;
-    }
 
 pub back : (w v : State) (f : Forest) → Grown w v f → (j : ℕ) → getD (v .claimed) j false ≡ false → getD (w .claimed) j false ≡ false
 back w v f G j e = go (getD (w .claimed) j false) refl
@@ -133,8 +119,21 @@ back w v f G j e = go (getD (w .claimed) j false) refl
     go true q = never (sym (G .keep j q .0) ∙ e)
     go false q = q
 
+-- a slot that is emptied is empty, and so is another that was
+set-empty : (ns : List Node) (i k : ℕ) → (k ≢ i → getD ns k empty ≡ empty) → getD (set ns i empty) k empty ≡ empty
+set-empty [] i k h = refl
+set-empty (n ∷ ns) zero zero h = refl
+set-empty (n ∷ ns) zero (suc k) h = h (λ e. absurd (omega arith))
+set-empty (n ∷ ns) (suc i) zero h = h (λ e. absurd (omega arith))
+set-empty (n ∷ ns) (suc i) (suc k) h = set-empty ns i k (λ z. h (λ e. z (let q : k ≡ i = omega arith in q)))
+
 differ : (cs : List Bool) (i j : ℕ) → getD cs i false ≡ true → getD cs j false ≡ false → j ≢ i
 differ cs i j t u e = never (sym t ∙ ap (λ (k : ℕ). getD cs k false) (sym e) ∙ u)
+
+chain-spent : (w v u : State) (f g : Forest) → Grown w v f → Grown v u g → (j : ℕ) → getD (w .claimed) j false ≡ false → getD (u .claimed) j false ≡ true
+    → All (λ k. j ≢ k) (tiles f ++ tiles g) → (b : Bool) → getD (v .claimed) j false ≡ b → getD (u .nodes) j empty ≡ empty
+chain-spent w v u f g A B j e t o true q = B .keep j q .1 ∙ A .spent j e q (all-left (λ k. j ≢ k) (tiles f) (tiles g) o)
+chain-spent w v u f g A B j e t o false q = B .spent j q t (all-right (λ k. j ≢ k) (tiles f) (tiles g) o)
 
 pub grown-chain : (w v u : State) (f g : Forest) → Grown w v f → Grown v u g → Grown w u (f ⧺ g)
 grown-chain w v u f g A B =
@@ -149,6 +148,7 @@ grown-chain w v u f g A B =
       room = rw (tiles-append f g) (omega (arith, length-append (tiles f) (tiles g), A .room, B .room));
       keep = λ j e. (B .keep j (A .keep j e .0) .0, B .keep j (A .keep j e .0) .1 ∙ A .keep j e .1);
       still = λ j e. B .still j e ∙ A .still j (back v u g B j e);
+      spent = λ j e t o. chain-spent w v u f g A B j e t (rw (tiles-append f g) at o) (getD (v .claimed) j false) refl;
       sees = B .sees ∙ ap (λ (l : List ℕ). l ++ shown g) (A .sees) ∙ append-assoc (w .panes) (shown f) (shown g)
           ∙ ap (λ (l : List ℕ). w .panes ++ l) (sym (shown-append f g));
       once = λ d. B .once (A .once d);
@@ -157,21 +157,22 @@ grown-chain w v u f g A B =
 pub good-after : (w v : State) (f : Forest) → Good w → Grown w v f → Good v
 good-after w v f g G = (G .long ∙ g .0, G .size ∙ g .1)
 
--- a slot that was not claimed and is none of the forest's is written
-grown-set : (w v : State) (f : Forest) (j : ℕ) (n : Node) → getD (w .claimed) j false ≡ false → getD (v .claimed) j false ≡ true → All (λ k. k ≢ j) (tiles f) → Grown w v f
-    → Grown w (written j n v) f
-grown-set w v f j n e t′ o G =
+-- a split that is melted leaves what was under it, and its slot empty
+grown-melt : (w v : State) (i : TileId) (s m : Float) (a : Axis) (c : Forest) → Grown w v (node i s m a c nil) → Grown w (written (i .slot) empty v) c
+grown-melt w v i s m a c G =
+    let away : All (λ k. k ≢ i .slot) (tiles c) = all-left (λ k. k ≢ i .slot) (tiles c) [] (G .apart .0) in
     record {
       long = G .long;
-      size = length-set (v .nodes) j n ∙ G .size;
-      holds = holds-same (v .nodes) (set (v .nodes) j n) f (all-map (λ k z. getD-set-other (v .nodes) j k n empty z) (tiles f) o) (G .holds);
-      fresh = G .fresh;
-      taken = G .taken;
-      apart = G .apart;
-      room = G .room;
-      keep = λ k t. (G .keep k t .0, getD-set-other (v .nodes) j k n empty (λ q. differ (w .claimed) k j t e (sym q)) ∙ G .keep k t .1);
-      still = λ k q. getD-set-other (v .nodes) j k n empty (differ (v .claimed) j k t′ q) ∙ G .still k q;
-      sees = G .sees;
+      size = length-set (v .nodes) (i .slot) empty ∙ G .size;
+      holds = holds-same (v .nodes) (set (v .nodes) (i .slot) empty) c (all-map (λ k z. getD-set-other (v .nodes) (i .slot) k empty empty z) (tiles c) away) (G .holds .1);
+      fresh = rw (append-nil (tiles c)) at (G .fresh .1);
+      taken = rw (append-nil (tiles c)) at (G .taken .1);
+      apart = rw (append-nil (tiles c)) at (G .apart .1);
+      room = omega (arith, G .room, length-append (tiles c) []);
+      keep = λ k t. (G .keep k t .0, getD-set-other (v .nodes) (i .slot) k empty empty (λ q. differ (w .claimed) k (i .slot) t (G .fresh .0) (sym q)) ∙ G .keep k t .1);
+      still = λ k q. getD-set-other (v .nodes) (i .slot) k empty empty (differ (v .claimed) (i .slot) k (G .taken .0) q) ∙ G .still k q;
+      spent = λ k e t o. set-empty (v .nodes) (i .slot) k (λ n. G .spent k e t (n, rw (append-nil (tiles c)) o));
+      sees = rw (append-nil (shown c)) at (G .sees);
       once = G .once;
     }
 
@@ -234,57 +235,74 @@ module _ (w : State) (good : Good w) (i : TileId) (h : i .slot < 64) (e : getD (
   claim-good : Good claimed
   claim-good = (length-set (w .claimed) (i .slot) true ∙ good .0, good .1)
 
-  grown-claim : (v : State) (f : Forest) → Grown claimed v f → Grown w v f
-  grown-claim v f G =
-      record {
-        long = G .long ∙ length-set (w .claimed) (i .slot) true;
-        size = G .size;
-        holds = G .holds;
-        fresh = all-map (λ j o. set-back (w .claimed) (i .slot) j o) (tiles f) (G .fresh);
-        taken = G .taken;
-        apart = G .apart;
-        room = omega (arith, G .room, claim-free);
-        keep = λ j t. G .keep j (set-mono (w .claimed) (i .slot) j t);
-        still = G .still;
-        sees = G .sees;
-        once = G .once;
-      }
-
   module _ (v : State) (f : Forest) (G : Grown claimed v f) where
     others : All (λ j. j ≢ i .slot) (tiles f)
     others = all-map (λ j o. differ (set (w .claimed) (i .slot) true) (i .slot) j claim-set o) (tiles f) (G .fresh)
 
-    -- the tile's own slot is written
-    pub grown-own : (n : Node) → Grown w (written (i .slot) n v) f
-    grown-own n = grown-set w v f (i .slot) n e (G .keep (i .slot) claim-set .0) others (grown-claim v f G)
+    -- another slot that was not claimed is not claimed by this
+    not-yet : (k : ℕ) → k ≢ i .slot → getD (w .claimed) k false ≡ false → getD (set (w .claimed) (i .slot) true) k false ≡ false
+    not-yet k n o = getD-set-other (w .claimed) (i .slot) k true false n ∙ o
+
+    own-keep : (n : Node) (j : ℕ) → getD (w .claimed) j false ≡ true → (getD (v .claimed) j false ≡ true) × Same (w .nodes) (set (v .nodes) (i .slot) n) j
+    own-keep n j t =
+        let K = G .keep j (set-mono (w .claimed) (i .slot) j t) in
+        (K .0, getD-set-other (v .nodes) (i .slot) j n empty (λ q. differ (w .claimed) j (i .slot) t e (sym q)) ∙ K .1)
+
+    own-still : (n : Node) (j : ℕ) → getD (v .claimed) j false ≡ false → Same (w .nodes) (set (v .nodes) (i .slot) n) j
+    own-still n j q = getD-set-other (v .nodes) (i .slot) j n empty (differ (v .claimed) (i .slot) j (G .keep (i .slot) claim-set .0) q) ∙ G .still j q
+
+    own-holds : (n : Node) → Holds (set (v .nodes) (i .slot) n) f
+    own-holds n = holds-same (v .nodes) (set (v .nodes) (i .slot) n) f (all-map (λ k z. getD-set-other (v .nodes) (i .slot) k n empty z) (tiles f) others) (G .holds)
+
+    own-fresh : All (λ j. getD (w .claimed) j false ≡ false) (tiles f)
+    own-fresh = all-map (λ j o. set-back (w .claimed) (i .slot) j o) (tiles f) (G .fresh)
+
+    -- the tile's own slot is emptied
+    pub grown-own : Grown w (written (i .slot) empty v) f
+    grown-own =
+        record {
+          long = G .long ∙ length-set (w .claimed) (i .slot) true;
+          size = length-set (v .nodes) (i .slot) empty ∙ G .size;
+          holds = own-holds empty;
+          fresh = own-fresh;
+          taken = G .taken;
+          apart = G .apart;
+          room = omega (arith, G .room, claim-free);
+          keep = own-keep empty;
+          still = own-still empty;
+          spent = λ k o t a. set-empty (v .nodes) (i .slot) k (λ n. G .spent k (not-yet k n o) t a);
+          sees = G .sees;
+          once = G .once;
+        }
 
     at-own : (n : Node) → getD (set (v .nodes) (i .slot) n) (i .slot) empty ≡ n
     at-own n = getD-set-same (v .nodes) (i .slot) n empty (omega (arith, G .size, good .1))
 
     grown-node : (a : Axis) → 2 ≤ length (roots f) → All (Fine (v .nodes) a) (roots f) → Grown w (written (i .slot) (stored a (roots f)) v) (node i zero-f zero-f a f nil)
     grown-node a two fine =
-        let B = grown-own (stored a (roots f)) in
+        let n = stored a (roots f) in
         record {
-          long = B .long;
-          size = B .size;
+          long = G .long ∙ length-set (w .claimed) (i .slot) true;
+          size = length-set (v .nodes) (i .slot) n ∙ G .size;
           holds = (
             record {
               inside = h;
-              is = at-own (stored a (roots f));
+              is = at-own n;
               two = two;
               fine = fine-set (roots f) (all-roots (λ j. j ≢ i .slot) f others) fine;
             },
-            B .holds,
+            own-holds n,
             tt,
           );
-          fresh = rw (append-nil (tiles f)) (e, B .fresh);
-          taken = rw (append-nil (tiles f)) (G .keep (i .slot) claim-set .0, B .taken);
-          apart = rw (append-nil (tiles f)) (others, B .apart);
+          fresh = rw (append-nil (tiles f)) (e, own-fresh);
+          taken = rw (append-nil (tiles f)) (G .keep (i .slot) claim-set .0, G .taken);
+          apart = rw (append-nil (tiles f)) (others, G .apart);
           room = rw (append-nil (tiles f)) (omega (arith, G .room, claim-free));
-          keep = B .keep;
-          still = B .still;
-          sees = rw (append-nil (shown f)) (B .sees);
-          once = B .once;
+          keep = own-keep n;
+          still = own-still n;
+          spent = λ k o t a. getD-set-other (v .nodes) (i .slot) k n empty (a .0) ∙ G .spent k (not-yet k (a .0) o) t (rw (append-nil (tiles f)) at (a .1));
+          sees = rw (append-nil (shown f)) (G .sees);
+          once = G .once;
         }
       where
         fine-set : (es : List Entry) → All (λ x. x .child .slot ≢ i .slot) es → All (Fine (v .nodes) a) es → All (Fine (set (v .nodes) (i .slot) (stored a (roots f))) a) es
@@ -308,12 +326,13 @@ module _ (w : State) (good : Good w) (i : TileId) (h : i .slot < 64) (e : getD (
         room = omega (arith, claim-free);
         keep = λ j t. (set-mono (w .claimed) (i .slot) j t, getD-set-other (w .nodes) (i .slot) j n empty (λ z. differ (w .claimed) j (i .slot) t e (sym z)));
         still = λ j q. getD-set-other (w .nodes) (i .slot) j n empty (differ (set (w .claimed) (i .slot) true) (i .slot) j claim-set q);
+        spent = λ j o t a. never (sym t ∙ getD-set-other (w .claimed) (i .slot) j true false (a .0) ∙ o);
         sees = rw (append-nil ps) refl;
         once = once;
       }
 
   pane-keeps : (log : List RepairAction) (p : ℕ) → nodeAt (w .nodes) i ≡ pane p → (b : Bool) → contains p (w .panes) ≡ b → Keeps w (paneBy b i p (work claimed log))
-  pane-keeps log p is true q = (nothing, refl, grown-own claimed nil (grown-none claimed) empty)
+  pane-keeps log p is true q = (nothing, refl, grown-own claimed nil (grown-none claimed))
   pane-keeps log p is false q = (
     group i (p ∷ []),
     refl,
@@ -328,7 +347,7 @@ module _ (w : State) (good : Good w) (i : TileId) (h : i .slot < 64) (e : getD (
   group-keeps b a ps [] u q d = (
     nothing,
     refl,
-    subst (λ (v : State). Grown w (written (i .slot) empty v) nil) (sym (q ∙ (λ z. state (w .nodes) (set (w .claimed) (i .slot) true) (append-nil (w .panes) z)))) (grown-own claimed nil (grown-none claimed) empty),
+    subst (λ (v : State). Grown w (written (i .slot) empty v) nil) (sym (q ∙ (λ z. state (w .nodes) (set (w .claimed) (i .slot) true) (append-nil (w .panes) z)))) (grown-own claimed nil (grown-none claimed)),
   )
   group-keeps b a ps (x ∷ xs) u q d = (
     group i (x ∷ xs),
@@ -353,11 +372,11 @@ module _ (w : State) (good : Good w) (i : TileId) (h : i .slot < 64) (e : getD (
 
     split-keeps : (u : Work) (old : List Float) (b : Bool) (f : Forest) → Grown claimed (u .state) f → All (Set (u .state .nodes) a) (roots f)
         → Keeps w (splitDone i a old (run (roots f) b u))
-    split-keeps u old b nil G s = (nothing, refl, grown-own (u .state) nil G empty)
+    split-keeps u old b nil G s = (nothing, refl, grown-own (u .state) nil G)
     split-keeps u old b (leaf j x m ps nil) G s =
-        let B = grown-own (u .state) (leaf j x m ps nil) G empty in (group j ps, refl, grown-like w _ (leaf j x m ps nil) (leaf j zero-f zero-f ps nil) refl refl (B .holds) B)
+        let B = grown-own (u .state) (leaf j x m ps nil) G in (group j ps, refl, grown-like w _ (leaf j x m ps nil) (leaf j zero-f zero-f ps nil) refl refl (B .holds) B)
     split-keeps u old b (node j x m y c nil) G s =
-        let B = grown-own (u .state) (node j x m y c nil) G empty in (branch j y c, refl, grown-like w _ (node j x m y c nil) (node j zero-f zero-f y c nil) refl refl (B .holds) B)
+        let B = grown-own (u .state) (node j x m y c nil) G in (branch j y c, refl, grown-like w _ (node j x m y c nil) (node j zero-f zero-f y c nil) refl refl (B .holds) B)
     split-keeps u old b (leaf j x m ps (leaf j′ x′ m′ ps′ r)) G s =
         let f = leaf j x m ps (leaf j′ x′ m′ ps′ r) in (branch i a (reshare fixShare f), refl, grown-many (u .state) f G s (omega arith))
     split-keeps u old b (leaf j x m ps (node j′ x′ m′ y′ c′ r)) G s =
@@ -427,8 +446,7 @@ module _ (a : Axis) (e : Entry) (cl : Least e) (r : Run) (w : State) (u : Work) 
     place-branch true q = (
       under,
       ap (λ (l : List Entry). r .list ++ l) melted-is,
-      grown-set w (u .state) under (j .slot) empty (G .fresh .0) (G .taken .0) (rw (tiles-reshare (mul binary64 (e .share)) c) away)
-          (grown-reshare w (u .state) c (mul binary64 (e .share)) (grown-under w (u .state) j zero-f zero-f y c G)),
+      grown-reshare w (written (j .slot) empty (u .state)) c (mul binary64 (e .share)) (grown-melt w (u .state) j zero-f zero-f y c G),
       set-same (u .state .nodes) (set (u .state .nodes) (j .slot) empty) a (roots under)
           (all-map (λ x n. getD-set-other (u .state .nodes) (j .slot) (x .child .slot) empty empty n) (roots under) (all-roots (λ k. k ≢ j .slot) under (rw (tiles-reshare (mul binary64 (e .share)) c) away)))
           (rw (roots-reshare (mul binary64 (e .share)) c)

@@ -10,3 +10,4 @@ pub mod Soundness
 pub mod Actions
 pub mod Fuel
 pub mod Wide
+pub mod Sweep

@@ -48,7 +48,7 @@ Settled ns r = ((l : Left) × Tidy ns r l) ⊎ Lone ns r
 abbrev pub slots : List TileId → List ℕ
 slots xs = map (λ t. t .slot) xs
 
-reached-in : (i : ℕ) (xs : List TileId) → Member i (slots xs) → isReached i xs ≡ true
+pub reached-in : (i : ℕ) (xs : List TileId) → Member i (slots xs) → isReached i xs ≡ true
 unfolding anyOf
 reached-in i [] m = absurd m
 reached-in i (x ∷ xs) (inl e) = rw (eq-eqb i (x .slot) e) refl
@@ -58,7 +58,7 @@ reached-in i (x ∷ xs) (inr m) = ap (λ (b : Bool). eqb i (x .slot) || b) (reac
     or-true true = refl
     or-true false = refl
 
-reached-out : (i : ℕ) (xs : List TileId) → All (λ j. i ≢ j) (slots xs) → isReached i xs ≡ false
+pub reached-out : (i : ℕ) (xs : List TileId) → All (λ j. i ≢ j) (slots xs) → isReached i xs ≡ false
 unfolding anyOf
 reached-out i [] a = refl
 reached-out i (x ∷ xs) a = rw (ne-eqb i (x .slot) (a .0)) (reached-out i xs (a .1))
@@ -135,13 +135,13 @@ module _ (ns : List Node) (size : length ns ≡ 64) (r : TileId) (l : Left) (k :
 -- ---- a fresh root
 
 module _ (ns : List Node) (size : length ns ≡ 64) (i : ℕ) (h : i < 64) where
-  abbrev fresh : List Node
+  abbrev pub fresh : List Node
   fresh = setNode (tile i) emptyGroup ns
 
   fresh-at : getD fresh i empty ≡ emptyGroup
   fresh-at = getD-set-same ns i emptyGroup empty (omega arith)
 
-  fresh-reads : readingFrom fresh (tile i) ≡ tile i ∷ []
+  pub fresh-reads : readingFrom fresh (tile i) ≡ tile i ∷ []
   unfolding reading
   fresh-reads = ap (λ (x : Node). tile i ∷ reading 1024 fresh (kidsOf x ++ [])) fresh-at
 
@@ -165,7 +165,7 @@ module _ (ns : List Node) (size : length ns ≡ 64) (r : TileId) where
   o = normalizeNode 64 r (begin ns)
 
   module _ (l : Left) (G : Grown (begin ns .state) (o .work .state) (stem l)) where
-    few : length (tiles (stem l)) ≤ 64
+    pub few : length (tiles (stem l)) ≤ 64
     few = omega (arith, G .room)
 
     panes-apart : Distinct (shown (stem l))

@@ -117,7 +117,7 @@ module _ (w : State) (good : Good w) (i : TileId) (h : i .slot < 64) (e : getD (
   swell u old b nil G s q = never (sym q)
   swell u old b (leaf j x m ps nil) G s q = never (sym q)
   swell u old b (node j x m y c nil) G s q =
-      let B = grown-own w good i h e (u .state) (node j x m y c nil) G empty in (branch j y c, refl, grown-like w _ (node j x m y c nil) (node j zero-f zero-f y c nil) refl refl (B .holds) B, q)
+      let B = grown-own w good i h e (u .state) (node j x m y c nil) G in (branch j y c, refl, grown-like w _ (node j x m y c nil) (node j zero-f zero-f y c nil) refl refl (B .holds) B, q)
   swell u old b (leaf j x m ps (leaf j′ x′ m′ ps′ r)) G s q =
       let f = leaf j x m ps (leaf j′ x′ m′ ps′ r) in (branch i a (reshare fixShare f), refl, grown-many w good i h e a (u .state) f G s (omega arith), many-wide f q)
   swell u old b (leaf j x m ps (node j′ x′ m′ y′ c′ r)) G s q =
