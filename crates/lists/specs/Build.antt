@@ -74,6 +74,10 @@ module _ {A : Type 0} where
         padded = e;
       }
 
+  -- the same of an equal list
+  pub exactly-is : {d : A} {at : List A} {len : ℕ} {xs ys : List A} → xs ≡ ys → Exactly d at len xs → Exactly d at len ys
+  exactly-is {d} {at} {len} e x = subst (λ (l : List A). Exactly d at len l) e x
+
   -- a push in place keeps an exact list exact
   pub exactly-push : (d x : A) (at at′ : List A) (len len′ : ℕ) (xs : List A) → Exactly d at len xs → len < 16 → Pushed x at len at′ len′ → Exactly d at′ len′ (xs ++ x ∷ [])
   exactly-push d x at at′ len len′ xs e h p =

@@ -26,6 +26,11 @@ and-swap false false c = refl
 pub length-mapped : (X Y : Type 0) (f : X → Y) (l : List X) (n : ℕ) → length (map f l) ≡ n → length l ≡ n
 length-mapped X Y f l n e = sym (length-map l f) ∙ e
 
+pub getD-map : {A B : Type 0} (f : A → B) (xs : List A) (i : ℕ) (d : A) (e : B) → i < length xs → getD (map f xs) i e ≡ f (getD xs i d)
+getD-map f [] i d e h = absurd (omega arith)
+getD-map f (x ∷ xs) zero d e h = refl
+getD-map f (x ∷ xs) (suc i) d e h = getD-map f xs i d e (le-of-suc-le-suc h)
+
 module _ {A : Type 0} where
   -- a place that is there reads the same whatever is read past the end
   pub getD-any : (xs : List A) (i : ℕ) (d e : A) → i < length xs → getD xs i d ≡ getD xs i e

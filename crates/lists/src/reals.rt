@@ -4,7 +4,7 @@ ghost use mathlib.Core.Path.{_≡_};
 ghost use mathlib.Core.List.{[]};
 ghost use Prim.Native.Nat.{_≤_, _<_};
 ghost use lib.Dec.{leb};
-ghost use lib.ListN.{getD, take};
+ghost use lib.ListN.{getD, replicate, take};
 ghost use Rattle.rules.specs.Lists.{insertAt, removeAt};
 ghost use Rattle.rules.specs.Numbers.{zero-f};
 ghost use Rattle.rules.specs.Tree.{reals};
@@ -119,6 +119,20 @@ pub fn first(l: Reals, n: usize) -> Reals
     while j < n {
         let y = get(l, j, 0.0);
         at[j] = y;
+        j += 1;
+    }
+    Reals { at, len: n }
+}
+
+// `vec![x; n]`
+pub fn repeat(n: usize, x: f64) -> Reals
+    requires { ⌜ n ≤ 16 ⌝ }
+    ensures { λ r. ⌜ IsReals r (replicate n x) ⌝ }
+{
+    let mut at = [0.0f64; 16];
+    let mut j = 0usize;
+    while j < n {
+        at[j] = x;
         j += 1;
     }
     Reals { at, len: n }
