@@ -1,7 +1,6 @@
 // Minima of a split's children: the Rust's SplitConstraints.
 use lists::reals;
 use rules::model::Reals;
-
 ghost use mathlib.Core.Path.{_≡_};
 ghost use Prim.Native.Nat.{_≤_, _<_};
 ghost use lib.ListN.{getD, take};

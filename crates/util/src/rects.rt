@@ -2,7 +2,6 @@
 use rules::frame::Rect;
 use rules::frame::Size;
 use rules::model::Axis;
-
 ghost use mathlib.Core.Path.{_≡_};
 ghost use Rattle.rules.specs.Tabs as Rule;
 

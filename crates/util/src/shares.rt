@@ -1,7 +1,6 @@
 // Shares of a split, and split fractions.
 use lists::reals;
 use rules::model::Reals;
-
 ghost use mathlib.Core.Path.{_≡_};
 ghost use mathlib.Core.List.{map};
 ghost use Prim.Native.Nat.{_≤_};

@@ -2,7 +2,6 @@
 use crate::rects;
 use rules::frame::Rect;
 use rules::model::TabBarPlacement;
-
 ghost use mathlib.Core.Path.{_≡_};
 ghost use Prim.Native.Nat.{_≤_, _<_};
 ghost use Rattle.rules.specs.Tabs as Rule;
@@ -117,7 +116,10 @@ pub fn split_tab_bar(rect: Rect, placement: TabBarPlacement, thickness: f64) -> 
     match placement {
         TabBarPlacement::Hidden => no_bar(rect),
         TabBarPlacement::Top => top_bar(rect, number::smaller(thickness, rects::height(rect))),
-        TabBarPlacement::Bottom => bottom_bar(rect, number::smaller(thickness, rects::height(rect))),
+        TabBarPlacement::Bottom => bottom_bar(
+            rect,
+            number::smaller(thickness, rects::height(rect)),
+        ),
         TabBarPlacement::Left => left_bar(rect, number::smaller(thickness, rects::width(rect))),
         TabBarPlacement::Right => right_bar(rect, number::smaller(thickness, rects::width(rect))),
     }

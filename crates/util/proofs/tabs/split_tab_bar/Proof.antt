@@ -1,108 +1,103 @@
+-- `util::tabs::split_tab_bar` cuts the thickness to the rectangle, then goes by the placement. Assumes nothing.
+use mathlib.Core.Path.{sym, ap, _∙_}
 use borrow.Author.Needs.{needs}
+use Rattle.rules.specs.Numbers.{smaller}
+use Rattle.rules.specs.Tabs.{splitTabBar, topBar, bottomBar, leftBar, rightBar}
+use Rattle.rules.specs.declared.model.TabBarPlacement.{TabBarPlacement}
 use Rattle.util.proofs.tabs.split_tab_bar.Statement.{statement}
 use Rattle.util.proofs.tabs.split_tab_bar.Tie as tie
-use Rattle.util.proofs.tabs.split_tab_bar.Reads as reads
-use Rattle.util.proofs.tabs.split_tab_bar.Lts as lts
-use Rattle.number.proofs.smaller.Reads as smaller-reads
-use Rattle.util.proofs.rects.height.Reads as height-reads
-use Rattle.util.proofs.rects.width.Reads as width-reads
-use Rattle.util.proofs.tabs.bottom_bar.Reads as bottom-bar-reads
-use Rattle.util.proofs.tabs.left_bar.Reads as left-bar-reads
-use Rattle.util.proofs.tabs.no_bar.Reads as no-bar-reads
-use Rattle.util.proofs.tabs.right_bar.Reads as right-bar-reads
-use Rattle.util.proofs.tabs.top_bar.Reads as top-bar-reads
 
--- src/tabs.rt:118:36
 enum-told : tie.Need-enum-told
 enum-told c = search needs
 
--- src/tabs.rt:118:36
 no-bar-requires : tie.Need-no-bar-requires
 no-bar-requires c κs = search needs
 
--- src/tabs.rt:119:74
 enum-told-2 : tie.Need-enum-told-2
 enum-told-2 c = search needs
 
--- src/tabs.rt:119:74
 height-requires : tie.Need-height-requires
 height-requires c κs = search needs
 
--- src/tabs.rt:119:47
 smaller-requires : tie.Need-smaller-requires
 smaller-requires c κs = search needs
 
--- src/tabs.rt:119:33
 top-bar-requires : tie.Need-top-bar-requires
 top-bar-requires c κs = search needs
 
--- src/tabs.rt:120:80
 enum-told-3 : tie.Need-enum-told-3
 enum-told-3 c = search needs
 
--- src/tabs.rt:120:80
 height-requires-2 : tie.Need-height-requires-2
 height-requires-2 c κs = search needs
 
--- src/tabs.rt:120:53
 smaller-requires-2 : tie.Need-smaller-requires-2
 smaller-requires-2 c κs = search needs
 
--- src/tabs.rt:120:36
 bottom-bar-requires : tie.Need-bottom-bar-requires
 bottom-bar-requires c κs = search needs
 
--- src/tabs.rt:121:76
 enum-told-4 : tie.Need-enum-told-4
 enum-told-4 c = search needs
 
--- src/tabs.rt:121:76
 width-requires : tie.Need-width-requires
 width-requires c κs = search needs
 
--- src/tabs.rt:121:49
 smaller-requires-3 : tie.Need-smaller-requires-3
 smaller-requires-3 c κs = search needs
 
--- src/tabs.rt:121:34
 left-bar-requires : tie.Need-left-bar-requires
 left-bar-requires c κs = search needs
 
--- src/tabs.rt:122:78
 enum-told-5 : tie.Need-enum-told-5
 enum-told-5 c = search needs
 
--- src/tabs.rt:122:78
 width-requires-2 : tie.Need-width-requires-2
 width-requires-2 c κs = search needs
 
--- src/tabs.rt:122:51
 smaller-requires-4 : tie.Need-smaller-requires-4
 smaller-requires-4 c κs = search needs
 
--- src/tabs.rt:122:35
 right-bar-requires : tie.Need-right-bar-requires
 right-bar-requires c κs = search needs
 
--- src/tabs.rt:114:1
 returns : tie.Need-returns
-returns c = ?
+unfolding splitTabBar
+returns c =
+    let a = c .before .before .before .args in
+    c .no-bar .ensures ∙ sym (ap (λ (p : TabBarPlacement). splitTabBar (a .rect) p (a .thickness)) (c .before .enum-told .given .1))
 
--- src/tabs.rt:114:1
 returns-2 : tie.Need-returns-2
-returns-2 c = ?
+unfolding splitTabBar
+returns-2 c =
+    let a = c .before .before .before .before .before .args in
+    c .top-bar .ensures
+    ∙ ap (topBar (a .rect)) (c .before .smaller .ensures ∙ ap (smaller (a .thickness)) (c .before .before .height .ensures))
+    ∙ sym (ap (λ (p : TabBarPlacement). splitTabBar (a .rect) p (a .thickness)) (c .before .before .before .enum-told2 .given .1))
 
--- src/tabs.rt:114:1
 returns-3 : tie.Need-returns-3
-returns-3 c = ?
+unfolding splitTabBar
+returns-3 c =
+    let a = c .before .before .before .before .before .args in
+    c .bottom-bar .ensures
+    ∙ ap (bottomBar (a .rect)) (c .before .smaller2 .ensures ∙ ap (smaller (a .thickness)) (c .before .before .height2 .ensures))
+    ∙ sym (ap (λ (p : TabBarPlacement). splitTabBar (a .rect) p (a .thickness)) (c .before .before .before .enum-told3 .given .1))
 
--- src/tabs.rt:114:1
 returns-4 : tie.Need-returns-4
-returns-4 c = ?
+unfolding splitTabBar
+returns-4 c =
+    let a = c .before .before .before .before .before .args in
+    c .left-bar .ensures
+    ∙ ap (leftBar (a .rect)) (c .before .smaller3 .ensures ∙ ap (smaller (a .thickness)) (c .before .before .width .ensures))
+    ∙ sym (ap (λ (p : TabBarPlacement). splitTabBar (a .rect) p (a .thickness)) (c .before .before .before .enum-told4 .given .1))
 
--- src/tabs.rt:114:1
 returns-5 : tie.Need-returns-5
-returns-5 c = ?
+unfolding splitTabBar
+returns-5 c =
+    let a = c .before .before .before .before .before .args in
+    c .right-bar .ensures
+    ∙ ap (rightBar (a .rect)) (c .before .smaller4 .ensures ∙ ap (smaller (a .thickness)) (c .before .before .width2 .ensures))
+    ∙ sym (ap (λ (p : TabBarPlacement). splitTabBar (a .rect) p (a .thickness)) (c .before .before .before .enum-told5 .given .1))
 
 pub split-tab-bar-spec : {M : Type 1} → statement M
 split-tab-bar-spec =

@@ -1,9 +1,7 @@
 -- `util::tabs::tab_across` divides the bar evenly. Assumes nothing.
-use mathlib.Core.Path.{_≡_, _∙_}
-use lib.Ieee.{Float, binary64, add, mul, div}
 use borrow.Author.Needs.{needs}
-use Rattle.rules.specs.Tabs.{rect}
-use Rattle.util.specs.Bars.{tabEndFrom}
+use Rattle.rules.specs.Tabs.{rect, width}
+use Rattle.util.specs.Bars.{tab-ends}
 use Rattle.util.proofs.tabs.tab_across.Statement.{statement}
 use Rattle.util.proofs.tabs.tab_across.Tie as tie
 
@@ -23,8 +21,11 @@ returns : tie.Need-returns
 returns c =
     let k = c .before .before .before .before in
     let a = k .before .args in
-    let each : (j : 𝕀) → Float = λ j. div binary64 (k .width .ensures j) (c .before .before .before .whole .ensures j) in
-    ?
+    let r = a .rect in
+    let n = c .before .before .before .whole in
+    let i = c .before .before .whole2 in
+    let e = tab-ends (r .x0) (r .x1) (k .width .result) (width r) (n .result) (i .result) (c .tab-end .result) (a .count) (a .index) (k .width .ensures) (n .ensures) (i .ensures) (c .tab-end .ensures) in
+    λ j. rect (e .0 j) (r .y0) (e .1 j) (r .y1)
 
 pub tab-across-spec : {M : Type 1} → statement M
 tab-across-spec =

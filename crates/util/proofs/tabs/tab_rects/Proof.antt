@@ -1,46 +1,57 @@
+-- `util::tabs::tab_rects` fills a fresh list with each tab. Assumes nothing.
+use mathlib.Core.Path.{refl, sym, _∙_}
+use Prim.Native.Nat.{ℕ, _-_}
+use native.Mathlib.Omega.{arith}
+use lib.Ieee.{ofBits}
+use Rattle.rules.specs.Tabs.{tabRect, tabRects}
+use Rattle.lists.specs.Exact.{padTo}
+use Rattle.lists.specs.Build.{Building, building-start, building-more, building-done}
+use Rattle.util.specs.Bars.{noRect}
+use Rattle.util.specs.Entries.{length-tabulate, tabulate-at}
 use Rattle.util.proofs.tabs.tab_rects.Statement.{statement}
 use Rattle.util.proofs.tabs.tab_rects.Tie as tie
-use Rattle.util.proofs.tabs.tab_rects.Reads as reads
-use Rattle.util.proofs.tabs.tab_rects.Lts as lts
-use Rattle.util.proofs.tabs.tab_rect.Reads as tab-rect-reads
 
 abbrev Inv-loop : tie.InvT-loop
-Inv-loop rect placement count at₀ j₀ at j = ?
+Inv-loop rect placement count at₀ j₀ at j = Building noRect (tabRects rect placement count) count j at
 
 abbrev μ-loop : tie.MeasureT-loop
-μ-loop rect placement count at₀ j₀ at j = ?
+μ-loop rect placement count at₀ j₀ at j = count - j
 
--- src/tabs.rt:196:5
 loop-holds : tie.Need-loop-holds Inv-loop μ-loop
-loop-holds c = ?
+unfolding padTo ofBits tabRects
+loop-holds c =
+    let a = c .args in
+    building-start noRect (tabRects (a .rect) (a .placement) (a .count)) _ (a .count) (sym (length-tabulate (tabRect (a .placement) (a .rect) (a .count)) (a .count))) (omega arith) refl
 
--- src/tabs.rt:197:13
 tab-rect-requires : tie.Need-tab-rect-requires Inv-loop μ-loop
-tab-rect-requires c κs = ?
+tab-rect-requires c κs = (omega arith, omega arith)
 
--- src/tabs.rt:198:9
 mul-at : tie.Need-mul-at Inv-loop μ-loop
-mul-at c = ?
+mul-at c = omega arith
 
--- src/tabs.rt:198:9
 array-set-from-at : tie.Need-array-set-from-at Inv-loop μ-loop
-array-set-from-at c = ?
+array-set-from-at c = omega arith
 
--- src/tabs.rt:199:9
 add-j : tie.Need-add-j Inv-loop μ-loop
-add-j c = ?
+add-j c = omega arith
 
--- src/tabs.rt:196:5
 loop-less : tie.Need-loop-less Inv-loop μ-loop
-loop-less c = ?
+loop-less c = omega arith
 
--- src/tabs.rt:196:5
 loop-again : tie.Need-loop-again Inv-loop μ-loop
-loop-again c = ?
+unfolding tabRects
+loop-again c =
+    let a = c .before .before .before .args in
+    let l = c .before .before .loop in
+    let h = c .before .loop-test .taken in
+    building-more noRect (tabRects (a .rect) (a .placement) (a .count)) (l .at) (a .count) (l .j) (c .tab-rect .result) (l .inv) h
+    (c .tab-rect .ensures ∙ sym (tabulate-at (tabRect (a .placement) (a .rect) (a .count)) (a .count) (l .j) noRect h))
 
--- src/tabs.rt:184:1
 returns : tie.Need-returns Inv-loop μ-loop
-returns c = ?
+returns c =
+    let a = c .before .before .args in
+    let l = c .before .loop in
+    building-done noRect (tabRects (a .rect) (a .placement) (a .count)) (l .at) (a .count) (l .j) (l .inv) (c .loop-test .left)
 
 pub tab-rects-spec : {M : Type 1} → statement M
 tab-rects-spec =
