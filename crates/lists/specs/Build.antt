@@ -78,6 +78,10 @@ module _ {A : Type 0} where
   pub exactly-is : {d : A} {at : List A} {len : ℕ} {xs ys : List A} → xs ≡ ys → Exactly d at len xs → Exactly d at len ys
   exactly-is {d} {at} {len} e x = subst (λ (l : List A). Exactly d at len l) e x
 
+  -- what is exactly the same list is the same array with the same length
+  pub exactly-same : {d : A} {at bt : List A} {len ken : ℕ} {xs : List A} → Exactly d at len xs → Exactly d bt ken xs → (at ≡ bt) × (len ≡ ken)
+  exactly-same x y = (x .padded ∙ sym (y .padded), x .size ∙ sym (y .size))
+
   -- a push in place keeps an exact list exact
   pub exactly-push : (d x : A) (at at′ : List A) (len len′ : ℕ) (xs : List A) → Exactly d at len xs → len < 16 → Pushed x at len at′ len′ → Exactly d at′ len′ (xs ++ x ∷ [])
   exactly-push d x at at′ len len′ xs e h p =

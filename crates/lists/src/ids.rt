@@ -89,10 +89,10 @@ fn left(l: Ids, p: usize, j: usize) -> u64
     requires { ⌜ j < 16 ⌝ }
     ensures { λ r. ⌜ r ≡ getD (removeAt p (ids l)) j 0 ⌝ }
 {
-    if j < p {
-        return get(l, j, 0);
+    if p <= j {
+        return get(l, j + 1, 0);
     }
-    get(l, j + 1, 0)
+    get(l, j, 0)
 }
 
 // Vec::remove; the caller has the entry by `get` first.

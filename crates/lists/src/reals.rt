@@ -87,10 +87,10 @@ fn left(l: Reals, p: usize, j: usize) -> f64
     requires { ⌜ j < 16 ⌝ }
     ensures { λ r. ⌜ r ≡ getD (removeAt p (reals l)) j zero-f ⌝ }
 {
-    if j < p {
-        return get(l, j, 0.0);
+    if p <= j {
+        return get(l, j + 1, 0.0);
     }
-    get(l, j + 1, 0.0)
+    get(l, j, 0.0)
 }
 
 // Vec::remove; the caller has the entry by `get` first.

@@ -1,4 +1,5 @@
 // Tile ids: the Rust's Vec<TileId>.
+use crate::Place;
 use rules::model::TileId;
 use rules::model::Tiles;
 ghost use mathlib.Core.Path.{_≡_};
@@ -6,9 +7,11 @@ ghost use mathlib.Core.List.{[]};
 ghost use Prim.Native.Nat.{_≤_, _<_};
 ghost use lib.Dec.{leb};
 ghost use lib.ListN.{getD, take};
+ghost use Rattle.rules.specs.Lists as Rule;
 ghost use Rattle.rules.specs.Lists.{insertAt, removeAt};
-ghost use Rattle.rules.specs.Tree.{tile, tiles};
+ghost use Rattle.rules.specs.Tree.{sameTile, tile, tiles};
 ghost use Rattle.lists.specs.Exact.{IsTiles, Pushed};
+ghost use Rattle.lists.specs.Find.{placeOf};
 
 // Vec::new
 pub fn empty() -> Tiles
@@ -87,10 +90,10 @@ fn left(l: Tiles, p: usize, j: usize) -> TileId
     requires { ⌜ j < 16 ⌝ }
     ensures { λ r. ⌜ r ≡ getD (removeAt p (tiles l)) j (tile 0) ⌝ }
 {
-    if j < p {
-        return get(l, j, TileId { slot: 0 });
+    if p <= j {
+        return get(l, j + 1, TileId { slot: 0 });
     }
-    get(l, j + 1, TileId { slot: 0 })
+    get(l, j, TileId { slot: 0 })
 }
 
 // Vec::remove; the caller has the entry by `get` first.
@@ -122,4 +125,22 @@ pub fn first(l: Tiles, n: usize) -> Tiles
         j += 1;
     }
     Tiles { at, len: n }
+}
+
+// `iter().position(|child| child == tile)`
+pub fn position(l: Tiles, tile: TileId) -> Place
+    requires { ⌜ l .len ≤ 16 ⌝ }
+    ensures { λ r. ⌜ placeOf r ≡ Rule.position (sameTile tile) (tiles l) ⌝ }
+{
+    let at = l.at;
+    let n = l.len;
+    let mut i = 0usize;
+    while i < n {
+        let t = at[i];
+        if tile.slot == t.slot {
+            return Place::At(i);
+        }
+        i += 1;
+    }
+    Place::Nothing
 }

@@ -4,6 +4,7 @@ use rules::frame::Rect;
 use rules::model::TabBarPlacement;
 ghost use mathlib.Core.Path.{_≡_};
 ghost use Prim.Native.Nat.{_≤_, _<_};
+ghost use Rattle.rules.specs.Numbers.{smaller, whole};
 ghost use Rattle.rules.specs.Tabs as Rule;
 ghost use Rattle.lists.specs.Exact.{Exactly};
 ghost use Rattle.util.specs.Bars.{barredOf, noRect, tabEndFrom};
@@ -109,20 +110,32 @@ fn no_bar(rect: Rect) -> Barred
     Barred { bar, pane: rect }
 }
 
+// A bar takes at most the rectangle: the Rust's `thickness.min(rect.height())`.
+fn cut(thickness: f64, room: f64) -> f64
+    ensures { λ r. ⌜ r ≡ smaller thickness room ⌝ }
+{
+    number::smaller(thickness, room)
+}
+
 // split_tab_bar
 pub fn split_tab_bar(rect: Rect, placement: TabBarPlacement, thickness: f64) -> Barred
     ensures { λ r. ⌜ barredOf r ≡ Rule.splitTabBar rect placement thickness ⌝ }
 {
     match placement {
         TabBarPlacement::Hidden => no_bar(rect),
-        TabBarPlacement::Top => top_bar(rect, number::smaller(thickness, rects::height(rect))),
-        TabBarPlacement::Bottom => bottom_bar(
-            rect,
-            number::smaller(thickness, rects::height(rect)),
-        ),
-        TabBarPlacement::Left => left_bar(rect, number::smaller(thickness, rects::width(rect))),
-        TabBarPlacement::Right => right_bar(rect, number::smaller(thickness, rects::width(rect))),
+        TabBarPlacement::Top => top_bar(rect, cut(thickness, rects::height(rect))),
+        TabBarPlacement::Bottom => bottom_bar(rect, cut(thickness, rects::height(rect))),
+        TabBarPlacement::Left => left_bar(rect, cut(thickness, rects::width(rect))),
+        TabBarPlacement::Right => right_bar(rect, cut(thickness, rects::width(rect))),
     }
+}
+
+// How many tabs share a bar's length: the Rust's `count as f64`.
+fn parts(count: usize) -> f64
+    requires { ⌜ count ≤ 16 ⌝ }
+    ensures { λ r. ⌜ r ≡ whole count ⌝ }
+{
+    number::whole(count)
 }
 
 // Where the tab at an index ends: the last ends where the bar does, whatever rounding did.
@@ -141,7 +154,7 @@ fn tab_across(rect: Rect, count: usize, index: usize) -> Rect
     requires { ⌜ (count ≤ 16) × (index < count) ⌝ }
     ensures { λ r. ⌜ r ≡ Rule.tabAcross rect count index ⌝ }
 {
-    let each = rects::width(rect) / number::whole(count);
+    let each = rects::width(rect) / parts(count);
     let x0 = rect.x0 + each * number::whole(index);
     let x1 = tab_end(x0, rect.x1, each, count, index);
     Rect {
@@ -157,7 +170,7 @@ fn tab_down(rect: Rect, count: usize, index: usize) -> Rect
     requires { ⌜ (count ≤ 16) × (index < count) ⌝ }
     ensures { λ r. ⌜ r ≡ Rule.tabDown rect count index ⌝ }
 {
-    let each = rects::height(rect) / number::whole(count);
+    let each = rects::height(rect) / parts(count);
     let y0 = rect.y0 + each * number::whole(index);
     let y1 = tab_end(y0, rect.y1, each, count, index);
     Rect {

@@ -26,7 +26,7 @@ loop-holds c =
     let a = c .args in
     let s : length (a .l .at) ≡ 16 = search needs in
     let h : a .l .len ≤ length (a .l .at) = omega arith in
-    building-start zero-f (take (a .n) (reals (a .l))) _ (a .n) (size-take (a .l .len) (a .l .at) h (a .n) (omega arith)) (omega arith) refl
+    building-start zero-f (take (a .n) (reals (a .l))) _ _ (omega (arith, size-take (a .l .len) (a .l .at) h (a .n) (omega arith))) (omega arith) refl
 
 get-requires : tie.Need-get-requires Inv-loop μ-loop
 get-requires c κs = search needs
@@ -48,13 +48,13 @@ unfolding ofBits
 loop-again c =
     let a = c .before .before .before .args in
     let l = c .before .before .loop in
-    building-more zero-f (take (a .n) (reals (a .l))) (l .at) (a .n) (l .j) (c .get .result) (l .inv) (c .before .loop-test .taken) (c .get .ensures ∙ sym (getD-take (a .n) (reals (a .l)) (l .j) zero-f (c .before .loop-test .taken)))
+    building-more zero-f (take (a .n) (reals (a .l))) (l .at) _ (l .j) (c .get .result) (l .inv) (c .before .loop-test .taken) (c .get .ensures ∙ sym (getD-take (a .n) (reals (a .l)) (l .j) zero-f (c .before .loop-test .taken)))
 
 returns : tie.Need-returns Inv-loop μ-loop
 returns c =
     let a = c .before .before .args in
     let l = c .before .loop in
-    building-done zero-f (take (a .n) (reals (a .l))) (l .at) (a .n) (l .j) (l .inv) (c .loop-test .left)
+    building-done zero-f (take (a .n) (reals (a .l))) (l .at) _ (l .j) (l .inv) (c .loop-test .left)
 
 pub first-spec : {M : Type 1} → statement M
 first-spec =

@@ -29,7 +29,7 @@ loop-holds c =
     let a = c .before .args in
     let s : length (a .l .at) ≡ 16 = search needs in
     let h : a .l .len ≤ length (a .l .at) = omega arith in
-    building-start zero-f (insertAt (a .p) (a .x) (reals (a .l))) _ (a .l .len + 1) (size-insertAt (a .l .len) (a .l .at) h (a .p) (a .x)) (omega arith) refl
+    building-start zero-f (insertAt (a .p) (a .x) (reals (a .l))) _ _ (omega (arith, size-insertAt (a .l .len) (a .l .at) h (a .p) (a .x))) (omega arith) refl
 
 inserted-requires : tie.Need-inserted-requires Inv-loop μ-loop
 inserted-requires c κs = (omega arith, omega arith)
@@ -50,13 +50,13 @@ loop-again : tie.Need-loop-again Inv-loop μ-loop
 loop-again c =
     let a = c .before .before .before .before .args in
     let l = c .before .before .loop in
-    building-more zero-f (insertAt (a .p) (a .x) (reals (a .l))) (l .at) (a .l .len + 1) (l .j) (c .inserted .result) (l .inv) (c .before .loop-test .taken) (c .inserted .ensures)
+    building-more zero-f (insertAt (a .p) (a .x) (reals (a .l))) (l .at) _ (l .j) (c .inserted .result) (l .inv) (c .before .loop-test .taken) (c .inserted .ensures)
 
 returns : tie.Need-returns Inv-loop μ-loop
 returns c =
     let a = c .before .before .before .args in
     let l = c .before .loop in
-    building-done zero-f (insertAt (a .p) (a .x) (reals (a .l))) (l .at) (a .l .len + 1) (l .j) (l .inv) (c .loop-test .left)
+    building-done zero-f (insertAt (a .p) (a .x) (reals (a .l))) (l .at) _ (l .j) (l .inv) (c .loop-test .left)
 
 pub insert-spec : {M : Type 1} → statement M
 insert-spec =

@@ -11,6 +11,9 @@ use Rattle.lists.specs.Places.{removeAt-before, removeAt-after}
 use Rattle.lists.proofs.reals.left.Statement.{statement}
 use Rattle.lists.proofs.reals.left.Tie as tie
 
+add-get : tie.Need-add-get
+add-get c = search needs
+
 get-requires : tie.Need-get-requires
 get-requires c κs = search needs
 
@@ -18,10 +21,7 @@ returns : tie.Need-returns
 unfolding ofBits
 returns c =
     let a = c .before .before .args in
-    c .get .ensures ∙ sym (removeAt-before (a .p) (reals (a .l)) (a .j) zero-f (search needs))
-
-add-get : tie.Need-add-get
-add-get c = search needs
+    c .get .ensures ∙ ap (λ (k : ℕ). getD (reals (a .l)) k zero-f) (add-one (a .j)) ∙ sym (removeAt-after (a .p) (reals (a .l)) (a .j) zero-f (search needs))
 
 get-requires-2 : tie.Need-get-requires-2
 get-requires-2 c κs = search needs
@@ -30,7 +30,7 @@ returns-2 : tie.Need-returns-2
 unfolding ofBits
 returns-2 c =
     let a = c .before .before .args in
-    c .get2 .ensures ∙ ap (λ (k : ℕ). getD (reals (a .l)) k zero-f) (add-one (a .j)) ∙ sym (removeAt-after (a .p) (reals (a .l)) (a .j) zero-f (search needs))
+    c .get2 .ensures ∙ sym (removeAt-before (a .p) (reals (a .l)) (a .j) zero-f (search needs))
 
 pub left-spec : {M : Type 1} → statement M
-left-spec = tie.close (tie.spec get-requires returns add-get get-requires-2 returns-2)
+left-spec = tie.close (tie.spec add-get get-requires returns get-requires-2 returns-2)

@@ -29,7 +29,7 @@ loop-holds c =
     let a = c .before .args in
     let s : length (a .l .at) ≡ 16 = search needs in
     let h : a .l .len ≤ length (a .l .at) = omega arith in
-    building-start zero-f (removeAt (a .p) (reals (a .l))) _ (a .l .len - 1) (size-removeAt (a .l .len) (a .l .at) h (a .p) (omega arith)) (omega arith) refl
+    building-start zero-f (removeAt (a .p) (reals (a .l))) _ _ (omega (arith, size-removeAt (a .l .len) (a .l .at) h (a .p) (omega arith))) (omega arith) refl
 
 left-requires : tie.Need-left-requires Inv-loop μ-loop
 left-requires c κs = omega arith
@@ -50,13 +50,13 @@ loop-again : tie.Need-loop-again Inv-loop μ-loop
 loop-again c =
     let a = c .before .before .before .before .args in
     let l = c .before .before .loop in
-    building-more zero-f (removeAt (a .p) (reals (a .l))) (l .at) (a .l .len - 1) (l .j) (c .left .result) (l .inv) (c .before .loop-test .taken) (c .left .ensures)
+    building-more zero-f (removeAt (a .p) (reals (a .l))) (l .at) _ (l .j) (c .left .result) (l .inv) (c .before .loop-test .taken) (c .left .ensures)
 
 returns : tie.Need-returns Inv-loop μ-loop
 returns c =
     let a = c .before .before .before .args in
     let l = c .before .loop in
-    building-done zero-f (removeAt (a .p) (reals (a .l))) (l .at) (a .l .len - 1) (l .j) (l .inv) (c .loop-test .left)
+    building-done zero-f (removeAt (a .p) (reals (a .l))) (l .at) _ (l .j) (l .inv) (c .loop-test .left)
 
 pub remove-spec : {M : Type 1} → statement M
 remove-spec =

@@ -25,7 +25,7 @@ loop-holds c =
     let a = c .args in
     let s : length (a .l .at) ≡ 16 = search (needs, length-mapped) in
     let h : a .l .len ≤ length (a .l .at) = omega arith in
-    building-start (tile 0) (take (a .n) (tiles (a .l))) _ (a .n) (size-take (a .l .len) (a .l .at) h (a .n) (omega arith)) (omega arith) refl
+    building-start (tile 0) (take (a .n) (tiles (a .l))) _ _ (omega (arith, size-take (a .l .len) (a .l .at) h (a .n) (omega arith))) (omega arith) refl
 
 get-requires : tie.Need-get-requires Inv-loop μ-loop
 get-requires c κs = search needs
@@ -46,13 +46,13 @@ loop-again : tie.Need-loop-again Inv-loop μ-loop
 loop-again c =
     let a = c .before .before .before .args in
     let l = c .before .before .loop in
-    building-more (tile 0) (take (a .n) (tiles (a .l))) (l .at) (a .n) (l .j) (c .get .result) (l .inv) (c .before .loop-test .taken) (c .get .ensures ∙ sym (getD-take (a .n) (tiles (a .l)) (l .j) (tile 0) (c .before .loop-test .taken)))
+    building-more (tile 0) (take (a .n) (tiles (a .l))) (l .at) _ (l .j) (c .get .result) (l .inv) (c .before .loop-test .taken) (c .get .ensures ∙ sym (getD-take (a .n) (tiles (a .l)) (l .j) (tile 0) (c .before .loop-test .taken)))
 
 returns : tie.Need-returns Inv-loop μ-loop
 returns c =
     let a = c .before .before .args in
     let l = c .before .loop in
-    building-done (tile 0) (take (a .n) (tiles (a .l))) (l .at) (a .n) (l .j) (l .inv) (c .loop-test .left)
+    building-done (tile 0) (take (a .n) (tiles (a .l))) (l .at) _ (l .j) (l .inv) (c .loop-test .left)
 
 pub first-spec : {M : Type 1} → statement M
 first-spec =

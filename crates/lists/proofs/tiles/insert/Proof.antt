@@ -28,7 +28,7 @@ loop-holds c =
     let a = c .before .args in
     let s : length (a .l .at) ≡ 16 = search (needs, length-mapped) in
     let h : a .l .len ≤ length (a .l .at) = omega arith in
-    building-start (tile 0) (insertAt (a .p) (a .x) (tiles (a .l))) _ (a .l .len + 1) (size-insertAt (a .l .len) (a .l .at) h (a .p) (a .x)) (omega arith) refl
+    building-start (tile 0) (insertAt (a .p) (a .x) (tiles (a .l))) _ _ (omega (arith, size-insertAt (a .l .len) (a .l .at) h (a .p) (a .x))) (omega arith) refl
 
 inserted-requires : tie.Need-inserted-requires Inv-loop μ-loop
 inserted-requires c κs = (omega arith, omega arith)
@@ -49,13 +49,13 @@ loop-again : tie.Need-loop-again Inv-loop μ-loop
 loop-again c =
     let a = c .before .before .before .before .args in
     let l = c .before .before .loop in
-    building-more (tile 0) (insertAt (a .p) (a .x) (tiles (a .l))) (l .at) (a .l .len + 1) (l .j) (c .inserted .result) (l .inv) (c .before .loop-test .taken) (c .inserted .ensures)
+    building-more (tile 0) (insertAt (a .p) (a .x) (tiles (a .l))) (l .at) _ (l .j) (c .inserted .result) (l .inv) (c .before .loop-test .taken) (c .inserted .ensures)
 
 returns : tie.Need-returns Inv-loop μ-loop
 returns c =
     let a = c .before .before .before .args in
     let l = c .before .loop in
-    building-done (tile 0) (insertAt (a .p) (a .x) (tiles (a .l))) (l .at) (a .l .len + 1) (l .j) (l .inv) (c .loop-test .left)
+    building-done (tile 0) (insertAt (a .p) (a .x) (tiles (a .l))) (l .at) _ (l .j) (l .inv) (c .loop-test .left)
 
 pub insert-spec : {M : Type 1} → statement M
 insert-spec =

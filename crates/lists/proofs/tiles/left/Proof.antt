@@ -10,16 +10,16 @@ use Rattle.lists.specs.Places.{removeAt-before, removeAt-after}
 use Rattle.lists.proofs.tiles.left.Statement.{statement}
 use Rattle.lists.proofs.tiles.left.Tie as tie
 
+add-get : tie.Need-add-get
+add-get c = search needs
+
 get-requires : tie.Need-get-requires
 get-requires c κs = search needs
 
 returns : tie.Need-returns
 returns c =
     let a = c .before .before .args in
-    c .get .ensures ∙ sym (removeAt-before (a .p) (tiles (a .l)) (a .j) (tile 0) (search needs))
-
-add-get : tie.Need-add-get
-add-get c = search needs
+    c .get .ensures ∙ ap (λ (k : ℕ). getD (tiles (a .l)) k (tile 0)) (add-one (a .j)) ∙ sym (removeAt-after (a .p) (tiles (a .l)) (a .j) (tile 0) (search needs))
 
 get-requires-2 : tie.Need-get-requires-2
 get-requires-2 c κs = search needs
@@ -27,7 +27,7 @@ get-requires-2 c κs = search needs
 returns-2 : tie.Need-returns-2
 returns-2 c =
     let a = c .before .before .args in
-    c .get2 .ensures ∙ ap (λ (k : ℕ). getD (tiles (a .l)) k (tile 0)) (add-one (a .j)) ∙ sym (removeAt-after (a .p) (tiles (a .l)) (a .j) (tile 0) (search needs))
+    c .get2 .ensures ∙ sym (removeAt-before (a .p) (tiles (a .l)) (a .j) (tile 0) (search needs))
 
 pub left-spec : {M : Type 1} → statement M
-left-spec = tie.close (tie.spec get-requires returns add-get get-requires-2 returns-2)
+left-spec = tie.close (tie.spec add-get get-requires returns get-requires-2 returns-2)

@@ -19,8 +19,8 @@ enum-told-2 c = search needs
 height-requires : tie.Need-height-requires
 height-requires c κs = search needs
 
-smaller-requires : tie.Need-smaller-requires
-smaller-requires c κs = search needs
+cut-requires : tie.Need-cut-requires
+cut-requires c κs = search needs
 
 top-bar-requires : tie.Need-top-bar-requires
 top-bar-requires c κs = search needs
@@ -31,8 +31,8 @@ enum-told-3 c = search needs
 height-requires-2 : tie.Need-height-requires-2
 height-requires-2 c κs = search needs
 
-smaller-requires-2 : tie.Need-smaller-requires-2
-smaller-requires-2 c κs = search needs
+cut-requires-2 : tie.Need-cut-requires-2
+cut-requires-2 c κs = search needs
 
 bottom-bar-requires : tie.Need-bottom-bar-requires
 bottom-bar-requires c κs = search needs
@@ -43,8 +43,8 @@ enum-told-4 c = search needs
 width-requires : tie.Need-width-requires
 width-requires c κs = search needs
 
-smaller-requires-3 : tie.Need-smaller-requires-3
-smaller-requires-3 c κs = search needs
+cut-requires-3 : tie.Need-cut-requires-3
+cut-requires-3 c κs = search needs
 
 left-bar-requires : tie.Need-left-bar-requires
 left-bar-requires c κs = search needs
@@ -55,8 +55,8 @@ enum-told-5 c = search needs
 width-requires-2 : tie.Need-width-requires-2
 width-requires-2 c κs = search needs
 
-smaller-requires-4 : tie.Need-smaller-requires-4
-smaller-requires-4 c κs = search needs
+cut-requires-4 : tie.Need-cut-requires-4
+cut-requires-4 c κs = search needs
 
 right-bar-requires : tie.Need-right-bar-requires
 right-bar-requires c κs = search needs
@@ -72,7 +72,7 @@ unfolding splitTabBar
 returns-2 c =
     let a = c .before .before .before .before .before .args in
     c .top-bar .ensures
-    ∙ ap (topBar (a .rect)) (c .before .smaller .ensures ∙ ap (smaller (a .thickness)) (c .before .before .height .ensures))
+    ∙ ap (topBar (a .rect)) (c .before .cut .ensures ∙ ap (smaller (a .thickness)) (c .before .before .height .ensures))
     ∙ sym (ap (λ (p : TabBarPlacement). splitTabBar (a .rect) p (a .thickness)) (c .before .before .before .enum-told2 .given .1))
 
 returns-3 : tie.Need-returns-3
@@ -80,7 +80,7 @@ unfolding splitTabBar
 returns-3 c =
     let a = c .before .before .before .before .before .args in
     c .bottom-bar .ensures
-    ∙ ap (bottomBar (a .rect)) (c .before .smaller2 .ensures ∙ ap (smaller (a .thickness)) (c .before .before .height2 .ensures))
+    ∙ ap (bottomBar (a .rect)) (c .before .cut2 .ensures ∙ ap (smaller (a .thickness)) (c .before .before .height2 .ensures))
     ∙ sym (ap (λ (p : TabBarPlacement). splitTabBar (a .rect) p (a .thickness)) (c .before .before .before .enum-told3 .given .1))
 
 returns-4 : tie.Need-returns-4
@@ -88,7 +88,7 @@ unfolding splitTabBar
 returns-4 c =
     let a = c .before .before .before .before .before .args in
     c .left-bar .ensures
-    ∙ ap (leftBar (a .rect)) (c .before .smaller3 .ensures ∙ ap (smaller (a .thickness)) (c .before .before .width .ensures))
+    ∙ ap (leftBar (a .rect)) (c .before .cut3 .ensures ∙ ap (smaller (a .thickness)) (c .before .before .width .ensures))
     ∙ sym (ap (λ (p : TabBarPlacement). splitTabBar (a .rect) p (a .thickness)) (c .before .before .before .enum-told4 .given .1))
 
 returns-5 : tie.Need-returns-5
@@ -96,7 +96,7 @@ unfolding splitTabBar
 returns-5 c =
     let a = c .before .before .before .before .before .args in
     c .right-bar .ensures
-    ∙ ap (rightBar (a .rect)) (c .before .smaller4 .ensures ∙ ap (smaller (a .thickness)) (c .before .before .width2 .ensures))
+    ∙ ap (rightBar (a .rect)) (c .before .cut4 .ensures ∙ ap (smaller (a .thickness)) (c .before .before .width2 .ensures))
     ∙ sym (ap (λ (p : TabBarPlacement). splitTabBar (a .rect) p (a .thickness)) (c .before .before .before .enum-told5 .given .1))
 
 pub split-tab-bar-spec : {M : Type 1} → statement M
@@ -107,19 +107,19 @@ split-tab-bar-spec =
     no-bar-requires
     enum-told-2
     height-requires
-    smaller-requires
+    cut-requires
     top-bar-requires
     enum-told-3
     height-requires-2
-    smaller-requires-2
+    cut-requires-2
     bottom-bar-requires
     enum-told-4
     width-requires
-    smaller-requires-3
+    cut-requires-3
     left-bar-requires
     enum-told-5
     width-requires-2
-    smaller-requires-4
+    cut-requires-4
     right-bar-requires
     returns
     returns-2
