@@ -1,13 +1,12 @@
 -- Laws of insertAt, removeAt and take: lengths, the entry at each place, membership. Assumes nothing.
-use mathlib.Core.Path.{_≡_, refl, sym, ap, _∙_, subst}
+use mathlib.Core.Path.{_≡_, refl, sym, ap, _∙_}
 use mathlib.Core.Bool.{Bool, true, false, _&&_, _||_}
 use mathlib.Core.List.{List, [], _∷_, _++_, map}
 use Prim.Native.Nat.{ℕ, zero, suc, _+_, _-_, _≤_, _<_}
 use native.Mathlib.Nat.{le-of-suc-le-suc}
-use native.Mathlib.Numerals.{add-one}
 use native.Mathlib.Omega.{arith}
-use lib.ListN.{length, take, drop, getD, length-take, length-map, List·getD-eq-default, length-append}
-use lib.Seq.{getD-take, length-take-le, take-all}
+use lib.ListN.{length, take, getD, length-take, length-map, List·getD-eq-default}
+use lib.Seq.{getD-take, length-take-le}
 use Rattle.rules.specs.Lists.{insertAt, removeAt, anyOf, allOf}
 
 or-swap : (a b c : Bool) → (a || (b || c)) ≡ (b || (a || c))

@@ -1,5 +1,5 @@
 -- The pair that split_tab_bar answers, as the rule's; the rectangle past a list's end; where a tab ends. Assumes nothing.
-use mathlib.Core.Path.{_≡_, sym, ap, _∙_}
+use mathlib.Core.Path.{_≡_, _∙_}
 use mathlib.Core.Bool.{cond}
 use Prim.Native.Nat.{ℕ, suc}
 use lib.Dec.{eqb}

@@ -1,6 +1,6 @@
 -- The rules of shares, minima and tabs, entry by entry. Assumes nothing.
-use mathlib.Core.Path.{_≡_, refl, sym, ap, _∙_, subst}
-use mathlib.Core.Bool.{Bool, true, false, _&&_, _||_, cond}
+use mathlib.Core.Path.{_≡_, refl, sym, ap, _∙_}
+use mathlib.Core.Bool.{Bool, true, false, _&&_, _||_}
 use mathlib.Core.List.{List, [], _∷_, _++_, map}
 use mathlib.Core.Logic.{⊎-elim}
 use Prim.Native.Nat.{ℕ, zero, suc, _+_, _-_, _≤_, _<_}
@@ -10,8 +10,8 @@ use native.Mathlib.Omega.{arith}
 use borrow.Author.Tests.{eq-eqb, ne-eqb}
 use lib.ListN.{length, take, drop, getD, length-append, List·getD-append, drop-of-length-le}
 use lib.Seq.{take-suc, drop-cons, take-all, getD-at}
-use lib.Ieee.{Float, eq, le, lt}
-use Rattle.rules.specs.Numbers.{zero-f, plus, minimumOk, shareOk}
+use lib.Ieee.{Float, eq, le}
+use Rattle.rules.specs.Numbers.{zero-f, plus, shareOk}
 use Rattle.rules.specs.Lists.{anyOf, sameList, tabulate}
 use Rattle.rules.specs.Shares.{fixShare, ones, mendedBy, repairedBy, repairedShares}
 use Rattle.rules.specs.Minima.{fixMinimum, alignedConstraints, compactBy, compactCons, compactConstraints, leastOf, minMajor}

@@ -1,9 +1,9 @@
 -- `lists::ids::insert` fills a fresh list. Assumes nothing.
-use mathlib.Core.Path.{_≡_, refl, sym, _∙_}
-use Prim.Native.Nat.{ℕ, _≤_, _+_, _-_}
+use mathlib.Core.Path.{_≡_, refl}
+use Prim.Native.Nat.{_≤_, _-_}
 use native.Mathlib.Omega.{arith}
 use borrow.Author.Needs.{needs}
-use lib.ListN.{length, take}
+use lib.ListN.{length}
 use Rattle.rules.specs.Lists.{insertAt}
 use Rattle.rules.specs.Tree.{ids}
 use Rattle.lists.specs.Exact.{padTo}

@@ -1,8 +1,8 @@
 -- `lists::reals::repeat` fills a fresh list with one number. Assumes nothing.
-use mathlib.Core.Path.{_≡_, refl, sym}
-use Prim.Native.Nat.{ℕ, _≤_, _-_}
+use mathlib.Core.Path.{refl, sym}
+use Prim.Native.Nat.{_-_}
 use native.Mathlib.Omega.{arith}
-use lib.ListN.{length, replicate, length-replicate, getD-replicate}
+use lib.ListN.{replicate, length-replicate, getD-replicate}
 use lib.Ieee.{ofBits}
 use Rattle.rules.specs.Numbers.{zero-f}
 use Rattle.lists.specs.Exact.{padTo}

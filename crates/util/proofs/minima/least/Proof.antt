@@ -1,5 +1,5 @@
 -- `util::minima::least` is the larger of the two, or the default. Assumes nothing.
-use mathlib.Core.Path.{_≡_, sym, ap, _∙_}
+use mathlib.Core.Path.{_≡_, sym, _∙_}
 use mathlib.Core.Bool.{true, false}
 use borrow.Author.Needs.{needs}
 use Rattle.rules.specs.Numbers.{minimumOk, larger}

@@ -1,6 +1,6 @@
 -- `util::minima::min_major` fills a fresh list with each child's minimum. Assumes nothing.
 use mathlib.Core.Path.{refl, sym, _∙_}
-use Prim.Native.Nat.{ℕ, _-_}
+use Prim.Native.Nat.{_-_}
 use native.Mathlib.Omega.{arith}
 use lib.Ieee.{ofBits}
 use Rattle.rules.specs.Numbers.{zero-f}

@@ -1,5 +1,5 @@
 -- `util::rects::major_length` is the width or the height. Assumes nothing.
-use mathlib.Core.Path.{_≡_, sym, ap, _∙_}
+use mathlib.Core.Path.{sym, ap, _∙_}
 use borrow.Author.Needs.{needs}
 use Rattle.rules.specs.Tabs.{majorLength}
 use Rattle.util.proofs.rects.major_length.Statement.{statement}

@@ -1,11 +1,11 @@
 -- `util::shares::mend` fills a fresh list with mended shares, and keeps the flag of those passed. Assumes nothing.
 use mathlib.Core.Path.{_≡_, refl, sym, ap, subst, _∙_}
-use mathlib.Core.Bool.{Bool, true, false, _||_}
+use mathlib.Core.Bool.{Bool, _||_}
 use mathlib.Core.List.{map}
-use Prim.Native.Nat.{ℕ, _≤_, _<_, _+_, _-_}
+use Prim.Native.Nat.{_≤_, _<_, _+_, _-_}
 use native.Mathlib.Omega.{arith}
 use borrow.Author.Needs.{needs}
-use lib.ListN.{length, getD, length-map}
+use lib.ListN.{length, length-map}
 use lib.Ieee.{ofBits}
 use Rattle.rules.specs.Numbers.{zero-f, shareOk}
 use Rattle.rules.specs.Tree.{reals}

@@ -1,6 +1,6 @@
 -- `util::tabs::tab_end` is the bar's own end at the last tab. Assumes nothing.
-use mathlib.Core.Path.{_≡_, sym, _∙_}
-use Prim.Native.Nat.{suc, _+_}
+use mathlib.Core.Path.{sym, _∙_}
+use Prim.Native.Nat.{suc}
 use native.Mathlib.Numerals.{add-one}
 use borrow.Author.Needs.{needs}
 use borrow.Author.Tests.{eq-eqb, ne-eqb}
