@@ -6,9 +6,9 @@ use Prim.Native.Nat.{ℕ, zero, suc, _+_, _≤_, _<_}
 use native.Mathlib.Nat.{le-of-suc-le-suc}
 use native.Mathlib.Numerals.{add-one}
 use native.Mathlib.Omega.{arith}
-use lib.ListN.{length, take, getD, set, length-append}
-use lib.Seq.{take-suc, take-all, length-take-le, take-suc-set}
-use Rattle.lists.specs.Exact.{padTo, Exactly, Pushed}
+use lib.ListN.{length, take, getD, set, length-append, length-set}
+use lib.Seq.{take-suc, take-all, length-take-le, take-suc-set, take-set-lt}
+use Rattle.lists.specs.Exact.{padTo, Exactly, Pushed, Replaced}
 
 module _ {A : Type 0} where
   pub length-padTo : (n : ℕ) (d : A) (xs : List A) → length (padTo n d xs) ≡ n
@@ -95,3 +95,23 @@ module _ {A : Type 0} where
   pub pushed : (x : A) (at : List A) (len : ℕ) → len < length at → Pushed x at len (set at len x) (len + 1)
   pushed x at len h =
       record { list = ap (λ (k : ℕ). take k (set at len x)) (add-one len) ∙ take-suc-set at len x h; size = refl; entries = refl }
+
+  pub replaced : (i : ℕ) (x : A) (at : List A) (len : ℕ) → i < len → Replaced i x at len (set at i x) len
+  replaced i x at len h = record { list = take-set-lt len at i x h; size = refl; entries = refl }
+
+  put-padTo : (n : ℕ) (d : A) (xs : List A) (i : ℕ) (x : A) → i < length xs → set (padTo n d xs) i x ≡ padTo n d (set xs i x)
+  unfolding padTo
+  put-padTo n d [] i x h = absurd (omega arith)
+  put-padTo zero d (y ∷ xs) i x h = refl
+  put-padTo (suc n) d (y ∷ xs) zero x h = refl
+  put-padTo (suc n) d (y ∷ xs) (suc i) x h = ap (λ (l : List A). y ∷ l) (put-padTo n d xs i x (le-of-suc-le-suc h))
+
+  -- a store within an exact list keeps it exact
+  pub exactly-replace : (d : A) (i : ℕ) (x : A) (at at′ : List A) (len len′ : ℕ) (xs : List A) → Exactly d at len xs → i < len → Replaced i x at len at′ len′ → Exactly d at′ len′ (set xs i x)
+  exactly-replace d i x at at′ len len′ xs e h p =
+      record {
+        list = p .list ∙ ap (λ (l : List A). set l i x) (e .list);
+        size = p .size ∙ e .size ∙ sym (length-set xs i x);
+        few = omega (arith, p .size, e .few);
+        padded = p .entries ∙ ap (λ (l : List A). set l i x) (e .padded) ∙ put-padTo 16 d xs i x (omega (arith, e .size));
+      }

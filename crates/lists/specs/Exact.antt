@@ -38,3 +38,9 @@ pub record Pushed {A : Type 0} (x : A) (at : List A) (len : ℕ) (at′ : List A
   pub list : take len′ at′ ≡ take len at ++ x ∷ []
   pub size : len′ ≡ len + 1
   pub entries : at′ ≡ set at len x
+
+-- the entry at a place anew, in place
+pub record Replaced {A : Type 0} (i : ℕ) (x : A) (at : List A) (len : ℕ) (at′ : List A) (len′ : ℕ) : Type 0 where
+  pub list : take len′ at′ ≡ set (take len at) i x
+  pub size : len′ ≡ len
+  pub entries : at′ ≡ set at i x

@@ -3,3 +3,4 @@ pub mod Exact
 pub mod Build
 pub mod Places
 pub mod Find
+pub mod Tests

@@ -1,13 +1,14 @@
--- Laws of insertAt, removeAt and take: lengths, the entry at each place, membership. Assumes nothing.
+-- Laws of insertAt, removeAt, take and tabulate: lengths, the entry at each place, membership. Assumes nothing.
 use mathlib.Core.Path.{_≡_, refl, sym, ap, _∙_}
 use mathlib.Core.Bool.{Bool, true, false, _&&_, _||_}
 use mathlib.Core.List.{List, [], _∷_, _++_, map}
+use mathlib.Core.Logic.{⊎-elim}
 use Prim.Native.Nat.{ℕ, zero, suc, _+_, _-_, _≤_, _<_}
-use native.Mathlib.Nat.{le-of-suc-le-suc}
+use native.Mathlib.Nat.{le-of-suc-le-suc, eq-or-lt-of-le}
 use native.Mathlib.Omega.{arith}
-use lib.ListN.{length, take, getD, length-take, length-map, List·getD-eq-default}
-use lib.Seq.{getD-take, length-take-le}
-use Rattle.rules.specs.Lists.{insertAt, removeAt, anyOf, allOf}
+use lib.ListN.{length, take, getD, length-take, length-map, List·getD-eq-default, List·getD-append, length-append}
+use lib.Seq.{getD-take, length-take-le, getD-at}
+use Rattle.rules.specs.Lists.{insertAt, removeAt, anyOf, allOf, tabulate}
 
 or-swap : (a b c : Bool) → (a || (b || c)) ≡ (b || (a || c))
 or-swap true true c = refl
@@ -158,3 +159,19 @@ module _ {A : Type 0} where
   allOf-removeAt t p [] d h = absurd (omega arith)
   allOf-removeAt t zero (y ∷ xs) d h = refl
   allOf-removeAt t (suc p) (y ∷ xs) d h = ap (λ (b : Bool). t y && b) (allOf-removeAt t p xs d (le-of-suc-le-suc h)) ∙ and-swap (t y) (t (getD xs p d)) (allOf t (removeAt p xs))
+
+  -- ---- a table
+
+  pub length-tabulate : (g : ℕ → A) (n : ℕ) → length (tabulate g n) ≡ n
+  unfolding tabulate
+  length-tabulate g zero = refl
+  length-tabulate g (suc n) = omega (arith, length-append (tabulate g n) (g n ∷ []), length-tabulate g n)
+
+  pub tabulate-at : (g : ℕ → A) (n j : ℕ) (d : A) → j < n → getD (tabulate g n) j d ≡ g j
+  unfolding tabulate
+  tabulate-at g zero j d h = absurd (omega arith)
+  tabulate-at g (suc n) j d h =
+      ⊎-elim
+      (λ e. ap (λ (k : ℕ). getD (tabulate g n ++ g n ∷ []) k d) e ∙ getD-at (tabulate g n) (g n) [] d n (length-tabulate g n) ∙ ap g (sym e))
+      (λ l. List·getD-append (tabulate g n) (g n ∷ []) d j (omega (arith, length-tabulate g n)) ∙ tabulate-at g n j d l)
+      (eq-or-lt-of-le (le-of-suc-le-suc h))

@@ -1,5 +1,5 @@
 // Lists of 16 with a length, for the Rust's Vec: pane ids, tile ids and reals.
-// Every list that is made here has zeros past its length.
+// A list that is made afresh has zeros past its length, and `push` and `replace`, which work in place, leave them there.
 pub mod ids;
 pub mod reals;
 pub mod tiles;

@@ -8,7 +8,7 @@ ghost use lib.ListN.{getD, replicate, take};
 ghost use Rattle.rules.specs.Lists.{insertAt, removeAt};
 ghost use Rattle.rules.specs.Numbers.{zero-f};
 ghost use Rattle.rules.specs.Tree.{reals};
-ghost use Rattle.lists.specs.Exact.{IsReals, Pushed};
+ghost use Rattle.lists.specs.Exact.{IsReals, Pushed, Replaced};
 
 // Vec::new
 pub fn empty() -> Reals
@@ -50,6 +50,17 @@ pub fn push(l: Reals, x: f64) -> Reals
     let n = l.len;
     at[n] = x;
     Reals { at, len: n + 1 }
+}
+
+// `shares[i] = share`, in place.
+pub fn replace(l: Reals, i: usize, x: f64) -> Reals
+    requires { ⌜ (i < l .len) × (l .len ≤ 16) ⌝ }
+    ensures { λ r. ⌜ Replaced i x (l .at) (l .len) (r .at) (r .len) ⌝ }
+{
+    let mut at = l.at;
+    let n = l.len;
+    at[i] = x;
+    Reals { at, len: n }
 }
 
 // The entry at j once x stands at p.

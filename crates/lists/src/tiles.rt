@@ -10,7 +10,7 @@ ghost use lib.ListN.{getD, take};
 ghost use Rattle.rules.specs.Lists as Rule;
 ghost use Rattle.rules.specs.Lists.{insertAt, removeAt};
 ghost use Rattle.rules.specs.Tree.{sameTile, tile, tiles};
-ghost use Rattle.lists.specs.Exact.{IsTiles, Pushed};
+ghost use Rattle.lists.specs.Exact.{IsTiles, Pushed, Replaced};
 ghost use Rattle.lists.specs.Find.{placeOf};
 
 // Vec::new
@@ -53,6 +53,17 @@ pub fn push(l: Tiles, x: TileId) -> Tiles
     let n = l.len;
     at[n] = x;
     Tiles { at, len: n + 1 }
+}
+
+// `children[i] = tile`, in place.
+pub fn replace(l: Tiles, i: usize, x: TileId) -> Tiles
+    requires { ⌜ (i < l .len) × (l .len ≤ 16) ⌝ }
+    ensures { λ r. ⌜ Replaced i x (l .at) (l .len) (r .at) (r .len) ⌝ }
+{
+    let mut at = l.at;
+    let n = l.len;
+    at[i] = x;
+    Tiles { at, len: n }
 }
 
 // The entry at j once x stands at p.

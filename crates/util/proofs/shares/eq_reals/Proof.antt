@@ -8,7 +8,7 @@ use lib.ListN.{length}
 use lib.Ieee.{ofBits, eq, ne}
 use Rattle.rules.specs.Numbers.{zero-f}
 use Rattle.rules.specs.Tree.{reals}
-use Rattle.util.specs.Entries.{Agreed, agreed-more, agreed-not, agreed-all, unlike-lengths}
+use Rattle.lists.specs.Tests.{Agreed, agreed-more, agreed-not, agreed-all, unlike-lengths}
 use Rattle.lists.specs.Places.{used-length}
 use Rattle.util.proofs.shares.eq_reals.Statement.{statement}
 use Rattle.util.proofs.shares.eq_reals.Tie as tie

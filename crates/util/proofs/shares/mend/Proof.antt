@@ -13,7 +13,7 @@ use Rattle.rules.specs.Shares.{fixShare}
 use Rattle.lists.specs.Exact.{padTo}
 use Rattle.lists.specs.Places.{used-length, getD-map}
 use Rattle.lists.specs.Build.{Building, building-start, building-more, building-done}
-use Rattle.util.specs.Entries.{Flagged, flagged-more, flagged-all}
+use Rattle.lists.specs.Tests.{Flagged, flagged-more, flagged-all}
 use Rattle.util.proofs.shares.mend.Statement.{statement}
 use Rattle.util.proofs.shares.mend.Tie as tie
 

@@ -7,7 +7,7 @@ use Rattle.rules.specs.Tabs.{tabRect, tabRects}
 use Rattle.lists.specs.Exact.{padTo}
 use Rattle.lists.specs.Build.{Building, building-start, building-more, building-done}
 use Rattle.util.specs.Bars.{noRect}
-use Rattle.util.specs.Entries.{length-tabulate, tabulate-at}
+use Rattle.lists.specs.Places.{length-tabulate, tabulate-at}
 use Rattle.util.proofs.tabs.tab_rects.Statement.{statement}
 use Rattle.util.proofs.tabs.tab_rects.Tie as tie
 
