@@ -1,0 +1,75 @@
+-- `util::minima::aligned_constraints` fills a fresh list with mended minima. Assumes nothing.
+use mathlib.Core.Path.{refl, sym, ap, _∙_}
+use Prim.Native.Nat.{_-_}
+use native.Mathlib.Omega.{arith}
+use borrow.Author.Needs.{needs}
+use lib.Ieee.{ofBits}
+use Rattle.rules.specs.Numbers.{zero-f}
+use Rattle.rules.specs.Tree.{reals}
+use Rattle.rules.specs.Minima.{fixMinimum, alignedConstraints}
+use Rattle.lists.specs.Exact.{padTo}
+use Rattle.lists.specs.Build.{Building, building-start, building-more, building-done}
+use Rattle.util.specs.Entries.{length-aligned, aligned-at}
+use Rattle.util.proofs.minima.aligned_constraints.Statement.{statement}
+use Rattle.util.proofs.minima.aligned_constraints.Tie as tie
+
+abbrev Inv-loop : tie.InvT-loop
+Inv-loop count minima at₀ j₀ at j = Building zero-f (alignedConstraints count (reals minima)) count j at
+
+abbrev μ-loop : tie.MeasureT-loop
+μ-loop count minima at₀ j₀ at j = count - j
+
+loop-holds : tie.Need-loop-holds Inv-loop μ-loop
+unfolding padTo ofBits
+loop-holds c =
+    let a = c .args in
+    building-start zero-f (alignedConstraints (a .count) (reals (a .minima))) _ (a .count) (sym (length-aligned (a .count) (reals (a .minima)))) (omega arith) refl
+
+get-requires : tie.Need-get-requires Inv-loop μ-loop
+get-requires c κs = search needs
+
+fix-minimum-requires : tie.Need-fix-minimum-requires Inv-loop μ-loop
+fix-minimum-requires c κs = search needs
+
+mul-at : tie.Need-mul-at Inv-loop μ-loop
+mul-at c = omega arith
+
+array-write-at : tie.Need-array-write-at Inv-loop μ-loop
+array-write-at c = omega arith
+
+add-j : tie.Need-add-j Inv-loop μ-loop
+add-j c = omega arith
+
+loop-less : tie.Need-loop-less Inv-loop μ-loop
+loop-less c = omega arith
+
+loop-again : tie.Need-loop-again Inv-loop μ-loop
+unfolding ofBits
+loop-again c =
+    let a = c .before .before .before .before .args in
+    let l = c .before .before .before .loop in
+    let h = c .before .before .loop-test .taken in
+    building-more zero-f (alignedConstraints (a .count) (reals (a .minima))) (l .at) (a .count) (l .j) (c .fix-minimum .result) (l .inv) h
+    (c .fix-minimum .ensures ∙ ap fixMinimum (c .before .get .ensures) ∙ sym (aligned-at (a .count) (reals (a .minima)) (l .j) h))
+
+returns : tie.Need-returns Inv-loop μ-loop
+returns c =
+    let a = c .before .before .args in
+    let l = c .before .loop in
+    building-done zero-f (alignedConstraints (a .count) (reals (a .minima))) (l .at) (a .count) (l .j) (l .inv) (c .loop-test .left)
+
+pub aligned-constraints-spec : {M : Type 1} → statement M
+aligned-constraints-spec =
+    tie.close
+    (tie.spec
+    Inv-loop
+    μ-loop
+    loop-holds
+    get-requires
+    fix-minimum-requires
+    mul-at
+    array-write-at
+    add-j
+    loop-less
+    loop-again
+    returns)

@@ -1,0 +1,3 @@
+-- What util's contracts say beside the rules, and the laws of the rules, entry by entry, that its proofs cite.
+pub mod Bars
+pub mod Entries
