@@ -1,0 +1,4 @@
+pub mod Columns
+pub mod Walked
+pub mod Steps
+pub mod Splits

@@ -1,0 +1,45 @@
+// Repair and soundness: the Rust's normalize_with_report, normalize_node and normalize_split (tree.rs).
+// The walk works on columns: the arena's slots, a field at a time, in lent arrays of numbers, since a tree by value in a recursion would cost its size
+// in stack at each level. A slot's head is kind (0 empty, 1 pane, 2 group, 3 split), mode (a group's placement, a split's axis), pane, active, and the
+// lengths of its ids, shares and minima.
+use rules::model::Ids;
+use rules::model::Reals;
+
+pub mod actions;
+pub mod leaves;
+pub mod panes;
+pub mod splits;
+
+// How many panes were seen and how many actions are listed.
+pub struct Counts {
+    pub seen: usize,
+    pub acts: usize,
+}
+
+// What is left of a tile: the tile that stands for it, nothing, or a list of over 16, which ends the walk.
+pub enum Kept {
+    At(u64),
+    Gone,
+    Wide,
+}
+
+// What a step of the walk answers.
+pub struct Walk {
+    pub kept: Kept,
+    pub counts: Counts,
+}
+
+// A split's lists: as they stand in its slot, or as the children kept so far, and whether anything about them changed.
+pub struct Kids {
+    pub children: Ids,
+    pub shares: Reals,
+    pub minima: Reals,
+    pub moved: bool,
+}
+
+// The children after one more was placed.
+pub struct Placing {
+    pub kids: Kids,
+    pub counts: Counts,
+    pub wide: bool,
+}
