@@ -58,3 +58,17 @@ pub record Closed (C D : Cols) (id mode : ℕ) (old : Reals) (k : Kids) (kept : 
 abbrev pub Closes : List (List ℕ) → List (List ℕ) → List (List Float) → List (List Float) → List (List ℕ) → Counts → ℕ → ℕ → Reals → Kids → List (List ℕ) → List (List ℕ) → List (List Float) → List (List Float) → List (List ℕ) → Counts → Kept → Type 0
 Closes hs xs ss ms acts c id mode old k hs′ xs′ ss′ ms′ acts′ d kept =
     (cs : List Bool) (seen : List ℕ) → Sized (cols hs xs ss ms cs seen acts c) → Closed (cols hs xs ss ms cs seen acts c) (cols hs′ xs′ ss′ ms′ cs seen acts′ d) id mode old k kept
+
+-- ---- the parts of placing a child
+
+-- a split's arrays have 16 places
+pub record Long (k : Kids) : Type 0 where
+  pub children : length (k .children .at) ≡ 16
+  pub shares : length (k .shares .at) ≡ 16
+  pub minima : length (k .minima .at) ≡ 16
+
+-- the children es were put behind those of k
+pub record Grown (es : List Entry) (k l : Kids) : Type 0 where
+  pub even : Even l
+  pub list : entriesOf l ≡ entriesOf k ++ es
+  pub count : l .children .len ≡ k .children .len + length es
