@@ -6,7 +6,7 @@ use Prim.Native.Nat.{ℕ, zero, suc, _+_, _*_, _≤_, _<_}
 use lib.ListN.{length, getD, take}
 use lib.Ieee.{Float}
 use Rattle.rules.specs.Tree.{tile}
-use Rattle.rules.specs.Repair.{Work, Sifted, sifted, retain}
+use Rattle.rules.specs.Repair.{Work, Sifted, sifted, siftPane, retain}
 use Rattle.rules.specs.declared.model.Ids.{Ids}
 use Rattle.rules.specs.declared.model.RepairAction.the-variants.{RemovedInvalidNode}
 use Rattle.lists.specs.Exact.{IsIds}
@@ -14,8 +14,22 @@ use Rattle.forest.specs.Lists.{free}
 use Rattle.repair.specs.Columns.{Cols, cols, Lists, Noted, Sized}
 use Rattle.repair.specs.Walked.{Walked}
 use Rattle.repair.specs.declared.Counts.{Counts}
+use Rattle.repair.specs.declared.panes.Sift.{Sift}
 use Rattle.repair.specs.declared.Kept.{Kept}
 use Rattle.repair.specs.declared.Kept.the-variants.{At, Gone, Wide}
+
+-- the panes of a group kept so far, with the panes seen and the actions, are what the rule has
+pub record SiftIs (seen : List ℕ) (acts : List (List ℕ)) (s : Sift) (q : Sifted) : Type 0 where
+  pub list : IsIds (s .list) (q .list)
+  pub panes : q .left .state .panes ≡ take (s .counts .seen) seen
+  pub actions : Lists acts (s .counts .acts) (q .left .actions)
+
+-- one pane more was looked at: the rule's `siftPane`
+pub record Sifts (id p : ℕ) (seen : List ℕ) (acts : List (List ℕ)) (s : Sift) (seen′ : List ℕ) (acts′ : List (List ℕ)) (r : Sift) : Type 0 where
+  pub longer : r .list .len ≤ s .list .len + 1
+  pub seen-most : r .counts .seen ≤ s .counts .seen + 1
+  pub acts-most : r .counts .acts ≤ s .counts .acts + 1
+  pub step : (q : Sifted) → SiftIs seen acts s q → SiftIs seen′ acts′ r (siftPane (tile id) p q)
 
 -- the panes of a group that are kept, from the counts c to d: the rule's `retain`
 pub record Retains (id : ℕ) (ps : List ℕ) (seen : List ℕ) (acts : List (List ℕ)) (c : Counts) (seen′ : List ℕ) (acts′ : List (List ℕ)) (l : Ids) (d : Counts) : Type 0 where

@@ -20,12 +20,22 @@ pub fn gone(acts: &mut [[u64; 3]; 1300], c: Counts, id: u64) -> Walk
     let n = actions::note(acts, c.acts, actions::REMOVED_INVALID_NODE, id, 0);
     Walk {
         kept: Kept::Gone,
-        counts: Counts { seen: c.seen, acts: n },
+        counts: Counts {
+            seen: c.seen,
+            acts: n,
+        },
     }
 }
 
 // A pane tile, in a slot that is not claimed.
-pub fn pane_step(heads: &mut [[u64; 8]; 64], claimed: &mut [bool; 64], seen: &mut [u64; 1024], acts: &mut [[u64; 3]; 1300], c: Counts, id: u64) -> Walk
+pub fn pane_step(
+    heads: &mut [[u64; 8]; 64],
+    claimed: &mut [bool; 64],
+    seen: &mut [u64; 1024],
+    acts: &mut [[u64; 3]; 1300],
+    c: Counts,
+    id: u64,
+) -> Walk
     requires { ⌜ Open (now heads) (now claimed) c id × (getD (getD (now heads) id []) 0 0 ≡ 1) ⌝ }
     ensures { λ r. ⌜ LeafWalked (now (heads .entry)) (now (claimed .entry)) (now (seen .entry)) (now (acts .entry)) c (now (heads .exit)) (now (claimed .exit)) (now (seen .exit)) (now (acts .exit)) (r .counts) (r .kept) id ⌝ }
 {
@@ -38,18 +48,32 @@ pub fn pane_step(heads: &mut [[u64; 8]; 64], claimed: &mut [bool; 64], seen: &mu
         heads[i] = [0u64; 8];
         return Walk {
             kept: Kept::Gone,
-            counts: Counts { seen: c.seen, acts: n },
+            counts: Counts {
+                seen: c.seen,
+                acts: n,
+            },
         };
     }
     let n = panes::see(seen, c.seen, pane);
     Walk {
         kept: Kept::At(id),
-        counts: Counts { seen: n, acts: c.acts },
+        counts: Counts {
+            seen: n,
+            acts: c.acts,
+        },
     }
 }
 
 // A group, in a slot that is not claimed.
-pub fn group_step(heads: &mut [[u64; 8]; 64], ids: &mut [[u64; 16]; 64], claimed: &mut [bool; 64], seen: &mut [u64; 1024], acts: &mut [[u64; 3]; 1300], c: Counts, id: u64) -> Walk
+pub fn group_step(
+    heads: &mut [[u64; 8]; 64],
+    ids: &mut [[u64; 16]; 64],
+    claimed: &mut [bool; 64],
+    seen: &mut [u64; 1024],
+    acts: &mut [[u64; 3]; 1300],
+    c: Counts,
+    id: u64,
+) -> Walk
     requires { ⌜ Open (now heads) (now claimed) c id × (length (now ids) ≡ 64) × (getD (getD (now heads) id []) 0 0 ≡ 2) × (getD (getD (now heads) id []) 4 0 ≤ 16) ⌝ }
     ensures { λ r. ⌜ GroupWalked (now (heads .entry)) (now (ids .entry)) (now (claimed .entry)) (now (seen .entry)) (now (acts .entry)) c (now (heads .exit)) (now (ids .exit)) (now (claimed .exit)) (now (seen .exit)) (now (acts .exit)) (r .counts) (r .kept) id ⌝ }
 {
@@ -69,16 +93,29 @@ pub fn group_step(heads: &mut [[u64; 8]; 64], ids: &mut [[u64; 16]; 64], claimed
         heads[i] = [0u64; 8];
         return Walk {
             kept: Kept::Gone,
-            counts: Counts { seen: d.seen, acts: n },
+            counts: Counts {
+                seen: d.seen,
+                acts: n,
+            },
         };
     }
     let active = panes::active_of(old, h[3] as usize, kept) as u64;
-    let n = actions::note_if(acts, d.acts, h[3] != active, actions::REPAIRED_ACTIVE_TAB, id, 0);
+    let n = actions::note_if(
+        acts,
+        d.acts,
+        h[3] != active,
+        actions::REPAIRED_ACTIVE_TAB,
+        id,
+        0,
+    );
     let at = kept.at;
     ids[i] = at;
     heads[i] = [2, h[1], 0, active, kept.len as u64, 0, 0, 0];
     Walk {
         kept: Kept::At(id),
-        counts: Counts { seen: d.seen, acts: n },
+        counts: Counts {
+            seen: d.seen,
+            acts: n,
+        },
     }
 }
