@@ -16,7 +16,7 @@ use Rattle.rules.specs.Lists.{anyOf}
 use Rattle.rules.specs.Shares.{fixShare, mendedBy, repairedBy, repairedShares}
 use Rattle.rules.specs.Minima.{alignedConstraints}
 use Rattle.rules.specs.Tree.{Node, empty, pane, tabs, split, tile, ids, reals, sameAxis, axisCode}
-use Rattle.rules.specs.Repair.{Entry, entry, entries, melts, scaled}
+use Rattle.rules.specs.Repair.{Work, Entry, entry, entries, Run, run, melts, melted, scaled, place, placeBy, note, clear}
 use Rattle.rules.specs.declared.model.TileId.{TileId}
 use Rattle.rules.specs.declared.model.Ids.{Ids}
 use Rattle.rules.specs.declared.model.Reals.{Reals}
@@ -24,8 +24,10 @@ use Rattle.lists.specs.Exact.{Exactly, IsReals, Pushed}
 use Rattle.forest.specs.Mended.{aligned-length}
 use Rattle.repair.specs.Columns.{axisFrom, nodeBy, nodeFrom}
 use Rattle.repair.specs.Walked.{Even, entriesOf}
-use Rattle.repair.specs.Splits.{Mends, Long, Grown}
+use Rattle.repair.specs.Splits.{Loaded, Mends, BadNoted, Long, Grown, mendedOf, Fits}
 use Rattle.repair.specs.declared.Kids.{Kids}
+use Rattle.repair.specs.declared.Counts.{Counts}
+use Rattle.repair.specs.declared.Placing.{Placing}
 
 -- ---- the entries of three lists
 
@@ -227,3 +229,57 @@ mends k l g f c s m =
         few = omega arith;
       };
     }
+
+-- the entries of mended lists are those that the walk reads
+pub mends-entries : (k l : Kids) → Mends k l → entriesOf l ≡ mendedOf k
+mends-entries k l m =
+    let n : length (map tile (ids (k .children))) ≡ length (ids (k .children)) = length-map (ids (k .children)) tile in
+    (λ i. zipped (m .children i) (m .shares i) (m .minima i))
+    ∙ (λ i. zipped (ids (k .children)) (repairedShares (sym n i) (reals (k .shares))) (alignedConstraints (sym n i) (reals (k .minima))))
+
+pub mends-count : (k l : Kids) → Mends k l → length (mendedOf k) ≡ l .children .len
+mends-count k l m =
+    sym (ap length (mends-entries k l m))
+    ∙ zipped-length (ids (l .children)) (reals (l .shares)) (reals (l .minima))
+    (ap length (m .shares) ∙ repaired-length (length (ids (k .children))) (reals (k .shares)) ∙ sym (ap length (m .children)))
+    (ap length (m .minima) ∙ aligned-length (length (ids (k .children))) (reals (k .minima)) ∙ sym (ap length (m .children)))
+    ∙ ap length (m .children) ∙ sym (m .count)
+
+-- ---- what fits
+
+never : {A : Type 0} → true ≡ false → A
+never e = absurd (let z : _≡_ {A = ℕ} 0 1 = cc in omega arith)
+
+abbrev pub placing : Kids → Counts → Bool → Placing
+placing k c b = record { kids = k; counts = c; wide = b }
+
+module _ (es : List Entry) (b : Bool) (k : Kids) (c : Counts) (v : Even k) where
+  pub fits-over : Long k → 16 < k .children .len + length es → Fits es b k c (placing k c true)
+  fits-over g h =
+      record {
+        even = v;
+        counts = refl;
+        list = λ e. never e;
+        moved = λ e. never e;
+        over = λ e. omega (arith, length-append (entriesOf k) es, even-count k v g);
+      }
+
+  pub fits-grown : (l : Kids) → Grown es k l → l .moved ≡ b → Fits es b k c (placing l c false)
+  fits-grown l g m =
+      record {
+        even = g .even;
+        counts = refl;
+        list = λ e. g .list;
+        moved = λ e. m;
+        over = λ e. never (sym e);
+      }
+
+pub melt-over : (k given sub : Kids) (c : Counts) (share : Float) → Even k → Long k → Mends given sub → 16 < k .children .len + sub .children .len
+    → Fits (map (scaled share) (mendedOf given)) true k c (placing k c true)
+melt-over k given sub c share v g m h =
+    fits-over (map (scaled share) (mendedOf given)) true k c v g (omega (arith, length-map (mendedOf given) (scaled share), mends-count given sub m))
+
+pub melt-fits : (k given sub l : Kids) (c : Counts) (share : Float) → Even k → Mends given sub → Grown (map (scaled share) (entriesOf sub)) k l → l .moved ≡ true
+    → Fits (map (scaled share) (mendedOf given)) true k c (placing l c false)
+melt-fits k given sub l c share v m g b =
+    fits-grown (map (scaled share) (mendedOf given)) true k c v l (subst (λ (es : List Entry). Grown (map (scaled share) es) k l) (mends-entries given sub m) g) b

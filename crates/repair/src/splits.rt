@@ -22,7 +22,7 @@ ghost use Rattle.rules.specs.Repair.{entry, melts, scaled};
 ghost use Rattle.rules.specs.Tree.{tile, sameAxis};
 ghost use Rattle.repair.specs.Columns.{Slim, axisFrom, nodeFrom};
 ghost use Rattle.repair.specs.Walked.{Even, entriesOf};
-ghost use Rattle.repair.specs.Splits.{Loaded, Mends, BadNoted, Places, Closes, Grown};
+ghost use Rattle.repair.specs.Splits.{Loaded, Mends, BadNoted, PlacesIn, ClosesIn, Grown, mendedOf, Fits, Stored};
 
 // The lists that stand in a slot.
 pub fn load(
@@ -155,4 +155,48 @@ fn is_meltable(h: [u64; 8], mode: u64, minimum: f64) -> bool
         return false;
     }
     minimum == 0.0
+}
+
+// The split that is melted in, if its children are not too many.
+fn melt_kids(k: Kids, c: Counts, share: f64, given: Kids) -> Placing
+    requires { ⌜ Even k × (given .children .len ≤ 16) × (given .shares .len ≤ 16) × (given .minima .len ≤ 16) ⌝ }
+    ensures { λ r. ⌜ Fits (map (scaled share) (mendedOf given)) Bool.true k c r ⌝ }
+{
+    let sub = mended(given);
+    let n = k.children.len;
+    let m = sub.children.len;
+    if 16 < n + m {
+        return Placing {
+            kids: k,
+            counts: c,
+            wide: true,
+        };
+    }
+    let kids = melt_all(k, share, sub);
+    Placing {
+        kids,
+        counts: c,
+        wide: false,
+    }
+}
+
+// A child as it is, if there is room.
+fn place_one(k: Kids, c: Counts, id: u64, share: f64, minimum: f64) -> Placing
+    requires { ⌜ Even k ⌝ }
+    ensures { λ r. ⌜ Fits (entry (tile id) share minimum ∷ []) (k .moved) k c r ⌝ }
+{
+    let n = k.children.len;
+    if 16 <= n {
+        return Placing {
+            kids: k,
+            counts: c,
+            wide: true,
+        };
+    }
+    let kids = push3(k, id, share, minimum);
+    Placing {
+        kids,
+        counts: c,
+        wide: false,
+    }
 }
