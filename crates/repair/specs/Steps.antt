@@ -35,6 +35,7 @@ pub record Sifts (id p : ℕ) (seen : List ℕ) (acts : List (List ℕ)) (s : Si
 pub record Retains (id : ℕ) (ps : List ℕ) (seen : List ℕ) (acts : List (List ℕ)) (c : Counts) (seen′ : List ℕ) (acts′ : List (List ℕ)) (l : Ids) (d : Counts) : Type 0 where
   pub seen-most : d .seen ≤ c .seen + length ps
   pub acts-most : d .acts ≤ c .acts + length ps
+  pub fewer : l .len ≤ length ps
   pub list : (w : Work) → w .state .panes ≡ take (c .seen) seen → Lists acts (c .acts) (w .actions) → IsIds l (retain (tile id) ps (sifted [] w) .list)
   pub panes : (w : Work) → w .state .panes ≡ take (c .seen) seen → Lists acts (c .acts) (w .actions) → retain (tile id) ps (sifted [] w) .left .state .panes ≡ take (d .seen) seen′
   pub actions : (w : Work) → w .state .panes ≡ take (c .seen) seen → Lists acts (c .acts) (w .actions) → Lists acts′ (d .acts) (retain (tile id) ps (sifted [] w) .left .actions)
