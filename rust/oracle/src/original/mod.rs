@@ -1,0 +1,6 @@
+//! The original, compiled unchanged from where UNDERSTORY_SRC says, and its
+//! answers in the shape of document 01.
+
+pub(crate) mod shims;
+
+
