@@ -3,7 +3,10 @@
 
 extern crate alloc;
 
+pub mod engine;
+pub mod value;
 pub mod original;
+pub mod model;
 
 // The original's files name each other and their shims from the crate's root.
 #[allow(dead_code, unused_imports)]

@@ -3,4 +3,9 @@
 
 pub(crate) mod shims;
 
+mod convert;
+mod engine;
+mod frames;
+mod table;
 
+pub use engine::Original;
