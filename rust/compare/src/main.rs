@@ -1,1 +1,89 @@
-fn main() {}
+//! Runs implementations of document 01 side by side over generated cases and
+//! shows the first difference, with the command that makes it again.
+//!
+//! compare [--kind NAME] [--seed N] [--count N] [--case N]
+//!
+//! Without --kind every kind is run. --count is in answers (a case of the kind
+//! operations has 20). --case runs one case only.
+
+use std::process::ExitCode;
+use std::time::Instant;
+
+use oracle::check::{Difference, KINDS, Kind, compare};
+use oracle::engine::Engine;
+use oracle::model::Model;
+use oracle::original::Original;
+
+const USAGE: &str = "compare [--kind solve|repair|operations|layout|spec] [--seed N] [--count N] [--case N]";
+
+struct Request {
+    kinds: Vec<Kind>,
+    seed: u64,
+    count: u64,
+    case: Option<u64>,
+}
+
+fn main() -> ExitCode {
+    let Some(request) = request(std::env::args().skip(1)) else {
+        eprintln!("{USAGE}");
+        return ExitCode::FAILURE;
+    };
+    let mut same = true;
+    for &kind in &request.kinds {
+        same &= run(kind, &request, &mut Original, &mut Model);
+    }
+    if same { ExitCode::SUCCESS } else { ExitCode::FAILURE }
+}
+
+fn request(mut words: impl Iterator<Item = String>) -> Option<Request> {
+    let mut request = Request { kinds: KINDS.to_vec(), seed: 1, count: 1_000_000, case: None };
+    while let Some(word) = words.next() {
+        let value = words.next()?;
+        match word.as_str() {
+            "--kind" => request.kinds = vec![*KINDS.iter().find(|kind| kind.name() == value)?],
+            "--seed" => request.seed = value.parse().ok()?,
+            "--count" => request.count = value.parse().ok()?,
+            "--case" => request.case = Some(value.parse().ok()?),
+            _ => return None,
+        }
+    }
+    Some(request)
+}
+
+/// All cases of a kind, or the one asked for; true if no difference was found.
+fn run(kind: Kind, request: &Request, left: &mut dyn Engine, right: &mut dyn Engine) -> bool {
+    let cases = match request.case {
+        Some(case) => case..case + 1,
+        None => 0..request.count.div_ceil(kind.answers()),
+    };
+    let started = Instant::now();
+    let count = (cases.end - cases.start) * kind.answers();
+    for case in cases {
+        if let Err(difference) = compare(kind, request.seed, case, left, right) {
+            show(kind, request.seed, case, &difference, left.name(), right.name());
+            return false;
+        }
+    }
+    let seconds = started.elapsed().as_secs_f64();
+    println!(
+        "{:<10} {} and {} agree on {count} answers (seed {}): {seconds:.1} s, {:.0} a second",
+        kind.name(),
+        left.name(),
+        right.name(),
+        request.seed,
+        count as f64 / seconds
+    );
+    true
+}
+
+fn show(kind: Kind, seed: u64, case: u64, difference: &Difference, left: &str, right: &str) {
+    println!("{} differs at case {case} of seed {seed}", kind.name());
+    println!("--- to see it again, from the folder rust:");
+    println!(
+        "cargo run --release -q --bin compare -- --kind {} --seed {seed} --case {case}",
+        kind.name()
+    );
+    println!("--- input\n{}", difference.input);
+    println!("--- {left}\n{}", difference.left);
+    println!("--- {right}\n{}", difference.right);
+}

@@ -3,10 +3,13 @@
 
 extern crate alloc;
 
+pub mod check;
 pub mod engine;
+pub mod generate;
 pub mod value;
 pub mod original;
 pub mod model;
+pub mod wire;
 
 // The original's files name each other and their shims from the crate's root.
 #[allow(dead_code, unused_imports)]

@@ -125,6 +125,8 @@ pub enum DockTarget {
 }
 
 #[derive(Clone, Debug, PartialEq)]
+// MoveTabGroup and SetSplitShares are named by tree.rs and wait (document 01).
+#[allow(dead_code)]
 pub enum TileOp {
     ActivatePane {
         pane: PaneId,
