@@ -64,12 +64,13 @@ fn damage_slot(rng: &mut Rng, slot: &mut Slot) {
 
 fn damage_tabs(rng: &mut Rng, slot: &mut Slot) {
     let used = slot.panes.len.min(WIDTH as u64);
-    match rng.below(6) {
+    match rng.below(7) {
         0 => slot.active = rng.pick(&[used, used + 1, 16, 1 << 32, u64::MAX]),
         1 => slot.active = rng.below(16),
         2 => slot.panes.len = 0,
         3 => slot.panes.at[rng.index(WIDTH)] = rng.below(60),
         4 => slot.panes.at[rng.index(WIDTH)] = slot.panes.at[rng.index(WIDTH)],
+        5 => slot.kind = Kind::Tabs(rng.pick(&BARS)),
         _ => slot.panes.len = rng.below(17),
     }
 }

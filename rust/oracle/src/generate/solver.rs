@@ -48,22 +48,24 @@ fn extreme(rng: &mut Rng, count: usize) -> SolverInput {
 }
 
 /// Each minimum lies between what its child has before and after the child
-/// before it is held, so that a pass holds one child each.
+/// before it is held, so that a pass holds one child each. Shares that fall by
+/// a steady ratio keep these gaps wide enough for 16 passes.
 fn many_passes(rng: &mut Rng, count: usize) -> SolverInput {
     let total = rng.between(1, 4000) as f64;
-    let shares: Vec<f64> = (0..count).map(|_| rng.unit() + 0.1).collect();
+    let ratio = rng.unit() * 0.5 + 0.45;
+    let shares: Vec<f64> =
+        (0..count).map(|at| ratio.powi(at as i32) * (1.0 + rng.unit() * 0.1)).collect();
     let mut rest = total;
     let mut flexible: f64 = shares.iter().sum();
-    let mut before = f64::INFINITY;
+    let mut gap = rng.unit();
     let mut minima = Vec::new();
     for share in &shares {
-        let now = rest * (share / flexible);
-        let ahead = now * 1.05;
-        let minimum = if before.is_finite() { now * (1.0 + before) } else { ahead };
-        before = ((minimum - now) / rest / 2.0).max(0.0);
-        minima.push(minimum.max(0.0));
-        rest -= minimum;
+        let has = rest * (share / flexible);
+        let short_by = has * gap * (0.4 + rng.unit() * 0.5);
+        minima.push((has + short_by).max(0.0));
+        rest -= has + short_by;
         flexible -= share;
+        gap = (short_by / (rest + short_by)).clamp(0.0, 1.0);
     }
     if let Some(last) = minima.last_mut() {
         *last = 0.0;

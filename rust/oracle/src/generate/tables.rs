@@ -80,6 +80,7 @@ pub fn good_parts(rng: &mut Rng, tiles: u64) -> Parts {
         next_pane: rng.below(50),
         stays_on_axis: rng.pick(&[2, 6, 1000]),
         wide: rng.once_in(24),
+        deep: rng.once_in(10),
     };
     let axis = rng.pick(&[0, 1]);
     maker.tile(rng, tiles, axis);
@@ -92,6 +93,8 @@ struct Maker {
     /// Once in so many times a child split has its parent's axis, and melts.
     stays_on_axis: u64,
     wide: bool,
+    /// Every split has a leaf and all the rest under one other child.
+    deep: bool,
 }
 
 impl Maker {
@@ -102,7 +105,11 @@ impl Maker {
         let widest = if self.wide { 18 } else { 16 };
         let most = if rng.once_in(3) { widest } else { 4 };
         let children = rng.between(2, most.min(tiles - 1));
-        let sizes = sizes(rng, tiles - 1, children);
+        let sizes = match tiles {
+            5.. if self.deep && rng.once_in(2) => vec![1, tiles - 2],
+            5.. if self.deep => vec![tiles - 2, 1],
+            _ => sizes(rng, tiles - 1, children),
+        };
         self.split_row(rng, axis, sizes.len());
         for size in sizes {
             let same = rng.once_in(self.stays_on_axis);

@@ -1,16 +1,18 @@
 //! Sound trees: built from tables, grown by operations, scattered over slots.
 
-use super::operations::growing_operation;
+use super::operations::{axis, growing_operation};
+use super::reals::good_share;
 use super::rng::Rng;
 use super::tables::good_parts;
 use crate::engine::Engine;
 use crate::model::Model;
-use crate::value::{Kind, SLOTS, Slot, TabBarPlacement, TileId, TileTree, WIDTH};
+use crate::value::{Axis, Kind, SLOTS, Slot, TabBarPlacement, TileId, TileTree, WIDTH};
 
 pub fn sound_tree(rng: &mut Rng) -> TileTree {
     let mut tree = match rng.below(32) {
         0 => lone_empty_root(rng),
         1 => lone_pane(rng),
+        2..=5 => near_wide(rng),
         _ => built(rng),
     };
     let steps = if rng.once_in(3) { rng.between(0, 30) } else { rng.between(0, 4) };
@@ -55,6 +57,66 @@ fn built(rng: &mut Rng) -> TileTree {
     };
     let parts = good_parts(rng, tiles);
     Model.from_spec(&parts.bytes()).tree
+}
+
+/// A split with 13 to 16 places, some of them groups near 16, some of them
+/// splits across it that hold a split along it: where 3 lies near, at the
+/// insertion and after the repair.
+fn near_wide(rng: &mut Rng) -> TileTree {
+    let along = axis(rng);
+    let across = if along == Axis::Horizontal { Axis::Vertical } else { Axis::Horizontal };
+    let mut maker = Maker { tree: TileTree::blank(), next_slot: 1, next_pane: 0 };
+    let count = rng.between(13, 16);
+    let children: Vec<u64> = (0..count)
+        .map(|_| match rng.below(9) {
+            0 => maker.group(rng.between(14, 16)),
+            1 if maker.next_slot < 40 => {
+                let inner: Vec<u64> = (0..rng.between(2, 4)).map(|_| maker.group(1)).collect();
+                let inner = maker.split(along, &inner);
+                let beside = maker.group(1);
+                maker.split(across, &[inner, beside])
+            }
+            _ => maker.pane(),
+        })
+        .collect();
+    let shares: Vec<f64> = children.iter().map(|_| good_share(rng)).collect();
+    let minima: Vec<f64> = match rng.below(3) {
+        0 => children.iter().map(|_| rng.between(1, 3) as f64).collect(),
+        _ => Vec::new(),
+    };
+    maker.tree.slots[0] = Slot::split(along, &children, &shares, &minima);
+    maker.tree
+}
+
+struct Maker {
+    tree: TileTree,
+    next_slot: usize,
+    next_pane: u64,
+}
+
+impl Maker {
+    fn put(&mut self, slot: Slot) -> u64 {
+        let at = self.next_slot;
+        self.tree.slots[at] = slot;
+        self.next_slot += 1;
+        at as u64
+    }
+
+    fn pane(&mut self) -> u64 {
+        self.next_pane += 1;
+        self.put(Slot::pane(self.next_pane))
+    }
+
+    fn group(&mut self, count: u64) -> u64 {
+        let panes: Vec<u64> = (1..=count).map(|more| self.next_pane + more).collect();
+        self.next_pane += count;
+        self.put(Slot::tabs(&panes, count / 2, TabBarPlacement::Top))
+    }
+
+    fn split(&mut self, axis: Axis, children: &[u64]) -> u64 {
+        let shares = vec![1.0; children.len()];
+        self.put(Slot::split(axis, children, &shares, &[]))
+    }
 }
 
 fn revision(rng: &mut Rng) -> u64 {

@@ -1,0 +1,115 @@
+//! What the generators reach: refusals, passes, actions and sizes, counted over
+//! the model's answers. `survey [count] [seed]`.
+
+use std::collections::BTreeMap;
+
+use oracle::check::{KINDS, Kind, RUN, layout_case, run_start};
+use oracle::engine::Engine;
+use oracle::generate::hostile::arena;
+use oracle::generate::operations::operation;
+use oracle::generate::solver::solver_input;
+use oracle::generate::tables::table;
+use oracle::model::Model;
+use oracle::value::{Action, Refusal, TileOp, TileTree};
+
+type Counts = BTreeMap<String, u64>;
+
+fn main() {
+    let mut words = std::env::args().skip(1).map(|word| word.parse().expect("a number"));
+    let count = words.next().unwrap_or(20_000);
+    let seed = words.next().unwrap_or(1);
+    for kind in KINDS {
+        let mut counts = Counts::new();
+        for case in 0..count {
+            survey(kind, seed, case, &mut counts);
+        }
+        println!("{} ({count} cases)", kind.name());
+        for (what, times) in counts {
+            println!("  {what:<44} {times}");
+        }
+    }
+}
+
+fn add(counts: &mut Counts, what: String) {
+    *counts.entry(what).or_default() += 1;
+}
+
+fn refusal(refusal: Option<Refusal>) -> String {
+    refusal.map_or("accepted".to_string(), |it| format!("refused {:>2}", it.number))
+}
+
+fn tiles(tree: &TileTree) -> usize {
+    tree.slots.iter().filter(|slot| !slot.is_empty()).count()
+}
+
+fn survey(kind: Kind, seed: u64, case: u64, counts: &mut Counts) {
+    let mut rng = kind.rng(seed, case);
+    match kind {
+        Kind::Solve => {
+            let input = solver_input(&mut rng);
+            let answer = Model.solve(input.total, &input.shares, &input.minima);
+            add(counts, refusal(answer.refusal));
+            add(counts, format!("passes {:>2}", answer.passes));
+        }
+        Kind::Repair => {
+            let tree = arena(&mut rng);
+            let answer = Model.repair(&tree);
+            add(counts, refusal(answer.refusal));
+            add(counts, format!("sound {}", Model.is_sound(&tree)));
+            add(counts, format!("actions from {:>4}", answer.actions.len().next_power_of_two() / 2));
+            add(counts, format!("tiles given from {:>2}", tiles(&tree) / 8 * 8));
+            add(counts, format!("tiles left from {:>2}", tiles(&answer.tree) / 8 * 8));
+            for action in answer.actions {
+                add(counts, format!("action {}", name(action)));
+            }
+        }
+        Kind::Operations => {
+            let mut tree = run_start(&mut rng);
+            for _ in 0..RUN {
+                let op = operation(&mut rng, &tree);
+                let answer = Model.apply(&tree, &op);
+                let what = if answer.refusal.is_none() && answer.tree.revision == tree.revision {
+                    "unchanged".to_string()
+                } else {
+                    refusal(answer.refusal)
+                };
+                add(counts, format!("{} {what}", op_name(&op)));
+                tree = answer.tree;
+            }
+            add(counts, format!("tiles from {:>2}", tiles(&tree) / 8 * 8));
+        }
+        Kind::Layout => {
+            let (tree, input) = layout_case(&mut rng);
+            let answer = Model.layout(&tree, &input);
+            add(counts, refusal(answer.refusal));
+            add(counts, format!("panes from {:>3}", answer.frame.panes.len() / 8 * 8));
+            add(counts, format!("tabs from {:>3}", answer.frame.tabs.len() / 16 * 16));
+        }
+        Kind::Spec => {
+            let answer = Model.from_spec(&table(&mut rng));
+            add(counts, refusal(answer.refusal));
+            add(counts, format!("tiles from {:>2}", tiles(&answer.tree) / 8 * 8));
+        }
+    }
+}
+
+fn name(action: Action) -> &'static str {
+    match action {
+        Action::RemovedInvalidNode(_) => "RemovedInvalidNode",
+        Action::RepairedActiveTab(_) => "RepairedActiveTab",
+        Action::RepairedShares(_) => "RepairedShares",
+        Action::RepairedConstraints(_) => "RepairedConstraints",
+        Action::CollapsedSplit(_) => "CollapsedSplit",
+        Action::RemovedDuplicatePane { .. } => "RemovedDuplicatePane",
+    }
+}
+
+fn op_name(op: &TileOp) -> &'static str {
+    match op {
+        TileOp::Activate { .. } => "activate",
+        TileOp::Close { .. } => "close",
+        TileOp::SplitPane { .. } => "split pane",
+        TileOp::Move { .. } => "move",
+        TileOp::Reorder { .. } => "reorder",
+    }
+}
