@@ -6,7 +6,7 @@ use super::rng::Rng;
 use super::tables::good_parts;
 use crate::engine::Engine;
 use crate::model::Model;
-use crate::value::{Axis, Kind, SLOTS, Slot, TabBarPlacement, TileId, TileTree, WIDTH};
+use crate::value::{Axis, Kind, List, SLOTS, Slot, TabBarPlacement, TileId, TileTree, WIDTH};
 
 pub fn sound_tree(rng: &mut Rng) -> TileTree {
     let mut tree = match rng.below(32) {
@@ -24,6 +24,9 @@ pub fn sound_tree(rng: &mut Rng) -> TileTree {
         tree = scattered(rng, &tree);
     }
     sign_some_zeros(rng, &mut tree);
+    if rng.once_in(4) {
+        leave_dirt(rng, &mut tree);
+    }
     tree.revision = revision(rng);
     tree
 }
@@ -159,4 +162,30 @@ fn sign_some_zeros(rng: &mut Rng, tree: &mut TileTree) {
             }
         }
     }
+}
+
+/// Fills what is no part of a tree: places past a list's length, and lists that
+/// a kind does not use, these with any length.
+fn leave_dirt(rng: &mut Rng, tree: &mut TileTree) {
+    for slot in &mut tree.slots {
+        let is_group = matches!(slot.kind, Kind::Tabs(_));
+        let is_split = matches!(slot.kind, Kind::Split(_));
+        let dirt = rng.next();
+        if !is_group {
+            slot.active = dirt;
+        }
+        soil(&mut slot.panes, is_group, dirt % 90);
+        soil(&mut slot.children, is_split, TileId { slot: dirt % 70 });
+        soil(&mut slot.shares, is_split, f64::NAN);
+        soil(&mut slot.minima, is_split, -1.0);
+    }
+}
+
+fn soil<T: Copy>(list: &mut List<T>, is_used: bool, dirt: T) {
+    if !is_used {
+        list.len = 19;
+        list.at[0] = dirt;
+    }
+    let used = list.len.min(WIDTH as u64) as usize;
+    list.at[used..].fill(dirt);
 }
