@@ -268,3 +268,12 @@ fn solved(total: f64, shares: &Reals, minima: &Reals) -> Result<(Vec<f64>, u64),
 fn in_range(number: f64, least: f64) -> bool {
     number >= least && number <= f64::MAX
 }
+
+/// What the original's own `apply` says, with nothing of document 01 around it:
+/// for the tests that show where the two part.
+pub fn bare_apply(tree: &value::TileTree, op: &TileOp) -> Result<(), String> {
+    let mut names = Names::default();
+    let mut arena = names.arena(tree);
+    let op = names.op(op);
+    arena.apply(op).map_err(|error| format!("{error:?}"))
+}

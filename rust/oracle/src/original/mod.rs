@@ -8,4 +8,4 @@ mod engine;
 mod frames;
 mod table;
 
-pub use engine::Original;
+pub use engine::{Original, bare_apply};

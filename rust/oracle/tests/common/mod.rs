@@ -1,5 +1,5 @@
 //! What the tests share: both implementations, and trees by hand.
-#![allow(dead_code)]
+#![allow(dead_code, unused_imports)]
 
 use oracle::engine::Engine;
 use oracle::model::Model;
@@ -11,7 +11,6 @@ use oracle::value::{
 
 pub use Axis::{Horizontal, Vertical};
 pub use Placement::{After, Before};
-#[allow(unused_imports)]
 pub use TabBarPlacement::{Hidden, Left, Top};
 
 /// Runs a test on the original and on the model.
