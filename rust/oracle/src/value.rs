@@ -139,7 +139,8 @@ impl Slot {
 pub struct TileTree {
     pub root: TileId,
     pub revision: u64,
-    pub slots: [Slot; SLOTS],
+    /// Boxed only so that a tree of 36 KB is not copied each time it is moved.
+    pub slots: Box<[Slot; SLOTS]>,
 }
 
 impl TileTree {
@@ -152,7 +153,7 @@ impl TileTree {
 
     /// No tile at all, root 0, revision 0.
     pub fn blank() -> Self {
-        Self { root: TileId { slot: 0 }, revision: 0, slots: [Slot::EMPTY; SLOTS] }
+        Self { root: TileId { slot: 0 }, revision: 0, slots: Box::new([Slot::EMPTY; SLOTS]) }
     }
 
     /// The occupied slot that an id names, if it names one.
@@ -180,7 +181,7 @@ pub fn same_tree_bits(a: &TileTree, b: &TileTree) -> bool {
 fn tree_by(a: &TileTree, b: &TileTree, number: fn(&f64, &f64) -> bool) -> bool {
     a.root == b.root
         && a.revision == b.revision
-        && a.slots.iter().zip(&b.slots).all(|(x, y)| slot_by(x, y, number))
+        && a.slots.iter().zip(b.slots.iter()).all(|(x, y)| slot_by(x, y, number))
 }
 
 pub fn same_slot_bits(a: &Slot, b: &Slot) -> bool {

@@ -122,7 +122,7 @@ fn wild(rng: &mut Rng) -> TileTree {
     tree.root = TileId { slot: rng.below(SLOTS as u64) };
     tree.revision = rng.below(9);
     let filled = rng.between(1, 6);
-    for slot in &mut tree.slots {
+    for slot in tree.slots.iter_mut() {
         if rng.below(6) < filled {
             *slot = wild_slot(rng);
         }
@@ -190,7 +190,7 @@ fn nothing_kept(rng: &mut Rng) -> TileTree {
     let mut tree = TileTree::blank();
     tree.root = id(rng);
     let full = rng.once_in(2);
-    for slot in &mut tree.slots {
+    for slot in tree.slots.iter_mut() {
         if full || rng.once_in(2) {
             *slot = match rng.below(3) {
                 0 => Slot::tabs(&[], rng.below(2), rng.pick(&BARS)),

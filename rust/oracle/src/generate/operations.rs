@@ -86,7 +86,7 @@ fn side(rng: &mut Rng) -> Placement {
 
 fn panes(tree: &TileTree) -> Vec<u64> {
     let mut panes = Vec::new();
-    for slot in &tree.slots {
+    for slot in tree.slots.iter() {
         match slot.kind {
             Kind::Pane(pane) => panes.push(pane),
             Kind::Tabs(_) => panes.extend(slot.panes.entries()),

@@ -152,7 +152,7 @@ pub fn scattered(rng: &mut Rng, tree: &TileTree) -> TileTree {
 
 /// A zero minimum that is not the last may be minus zero in a sound tree.
 fn sign_some_zeros(rng: &mut Rng, tree: &mut TileTree) {
-    for slot in &mut tree.slots {
+    for slot in tree.slots.iter_mut() {
         if let Kind::Split(_) = slot.kind {
             let used = slot.minima.len as usize;
             for minimum in &mut slot.minima.at[..used] {
@@ -167,7 +167,7 @@ fn sign_some_zeros(rng: &mut Rng, tree: &mut TileTree) {
 /// Fills what is no part of a tree: places past a list's length, and lists that
 /// a kind does not use, these with any length.
 fn leave_dirt(rng: &mut Rng, tree: &mut TileTree) {
-    for slot in &mut tree.slots {
+    for slot in tree.slots.iter_mut() {
         let is_group = matches!(slot.kind, Kind::Tabs(_));
         let is_split = matches!(slot.kind, Kind::Split(_));
         let dirt = rng.next();

@@ -242,7 +242,7 @@ fn laid_out(tree: &value::TileTree, input: &LayoutInput) -> Result<Frame, Refusa
         return Err(Refusal::BAD_INPUT);
     }
     let mut plain = tree.clone();
-    for slot in &mut plain.slots {
+    for slot in plain.slots.iter_mut() {
         slot.minima.at = slot.minima.at.map(unsigned);
     }
     let arena = Names::default().arena(&plain);
