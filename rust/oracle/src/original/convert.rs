@@ -7,19 +7,29 @@ use crate::{
     TileId, TileNode, TileOp, TileTree,
 };
 
-/// The original's ids have 32 bits and ours have 64. A bad id (64 or more) is
-/// given a number of its own here that no tile of the original can reach.
-#[derive(Default)]
+/// The original's names for our tile ids, which have 32 bits there and 64 here.
 pub struct Names {
+    /// What stands for our slots: their own numbers in an arena just made.
+    pub slots: [TileId; SLOTS],
+    /// A bad id (64 or more) is given a number that no tile there can reach.
     bad: Vec<u64>,
 }
 
 const FIRST_BAD: u32 = 1_000_000;
 
+/// A tile id that is never alive there.
+pub const DEAD: TileId = TileId(FIRST_BAD - 1);
+
+impl Default for Names {
+    fn default() -> Self {
+        Self { slots: std::array::from_fn(|at| TileId(at as u32)), bad: Vec::new() }
+    }
+}
+
 impl Names {
     fn there(&mut self, id: value::TileId) -> TileId {
-        if id.slot < SLOTS as u64 {
-            return TileId(id.slot as u32);
+        if let Some(&there) = self.slots.get(id.slot.min(SLOTS as u64) as usize) {
+            return there;
         }
         let known = self.bad.iter().position(|&bad| bad == id.slot);
         let place = known.unwrap_or_else(|| {

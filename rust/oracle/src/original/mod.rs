@@ -6,6 +6,8 @@ pub(crate) mod shims;
 mod convert;
 mod engine;
 mod frames;
+mod history;
 mod table;
 
 pub use engine::{Original, bare_apply};
+pub use history::History;
