@@ -1,10 +1,11 @@
 //! Runs implementations of document 01 side by side over generated cases and
 //! shows the first difference, with the command that makes it again.
 //!
-//! compare [--kind NAME] [--seed N] [--count N] [--case N]
+//! compare [--kind NAME] [--seed N] [--count N] [--case N] [--left NAME] [--right NAME]
 //!
 //! Without --kind every kind is run. --count is in answers (a case of the kind
-//! operations has 20). --case runs one case only.
+//! operations has 20). --case runs one case only. --left and --right name the
+//! implementations, by default the original and the model.
 
 use std::process::ExitCode;
 use std::time::Instant;
@@ -14,29 +15,48 @@ use oracle::engine::Engine;
 use oracle::model::Model;
 use oracle::original::Original;
 
-const USAGE: &str = "compare [--kind solve|repair|operations|layout|spec] [--seed N] [--count N] [--case N]";
+const USAGE: &str = "compare [--kind solve|repair|operations|layout|spec] [--seed N] [--count N] \
+                     [--case N] [--left original|model] [--right original|model]";
 
 struct Request {
     kinds: Vec<Kind>,
     seed: u64,
     count: u64,
     case: Option<u64>,
+    left: Box<dyn Engine>,
+    right: Box<dyn Engine>,
+}
+
+/// Every implementation that can be compared; a new one is added here.
+fn engine(name: &str) -> Option<Box<dyn Engine>> {
+    match name {
+        "original" => Some(Box::new(Original)),
+        "model" => Some(Box::new(Model)),
+        _ => None,
+    }
 }
 
 fn main() -> ExitCode {
-    let Some(request) = request(std::env::args().skip(1)) else {
+    let Some(mut request) = request(std::env::args().skip(1)) else {
         eprintln!("{USAGE}");
         return ExitCode::FAILURE;
     };
     let mut same = true;
-    for &kind in &request.kinds {
-        same &= run(kind, &request, &mut Original, &mut Model);
+    for kind in request.kinds.clone() {
+        same &= run(kind, &mut request);
     }
     if same { ExitCode::SUCCESS } else { ExitCode::FAILURE }
 }
 
 fn request(mut words: impl Iterator<Item = String>) -> Option<Request> {
-    let mut request = Request { kinds: KINDS.to_vec(), seed: 1, count: 1_000_000, case: None };
+    let mut request = Request {
+        kinds: KINDS.to_vec(),
+        seed: 1,
+        count: 1_000_000,
+        case: None,
+        left: Box::new(Original),
+        right: Box::new(Model),
+    };
     while let Some(word) = words.next() {
         let value = words.next()?;
         match word.as_str() {
@@ -44,6 +64,8 @@ fn request(mut words: impl Iterator<Item = String>) -> Option<Request> {
             "--seed" => request.seed = value.parse().ok()?,
             "--count" => request.count = value.parse().ok()?,
             "--case" => request.case = Some(value.parse().ok()?),
+            "--left" => request.left = engine(&value)?,
+            "--right" => request.right = engine(&value)?,
             _ => return None,
         }
     }
@@ -51,11 +73,12 @@ fn request(mut words: impl Iterator<Item = String>) -> Option<Request> {
 }
 
 /// All cases of a kind, or the one asked for; true if no difference was found.
-fn run(kind: Kind, request: &Request, left: &mut dyn Engine, right: &mut dyn Engine) -> bool {
+fn run(kind: Kind, request: &mut Request) -> bool {
     let cases = match request.case {
         Some(case) => case..case + 1,
         None => 0..request.count.div_ceil(kind.answers()),
     };
+    let (left, right) = (request.left.as_mut(), request.right.as_mut());
     let started = Instant::now();
     let count = (cases.end - cases.start) * kind.answers();
     for case in cases {
@@ -80,7 +103,8 @@ fn show(kind: Kind, seed: u64, case: u64, difference: &Difference, left: &str, r
     println!("{} differs at case {case} of seed {seed}", kind.name());
     println!("--- to see it again, from the folder rust:");
     println!(
-        "cargo run --release -q --bin compare -- --kind {} --seed {seed} --case {case}",
+        "cargo run --release -q --bin compare -- --kind {} --seed {seed} --case {case} \
+         --left {left} --right {right}",
         kind.name()
     );
     println!("--- input\n{}", difference.input);

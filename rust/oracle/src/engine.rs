@@ -9,6 +9,7 @@ use crate::value::{
 
 pub trait Engine {
     fn name(&self) -> &'static str;
+    #[allow(clippy::wrong_self_convention)]
     fn from_spec(&mut self, bytes: &[u8]) -> TreeAnswer;
     fn repair(&mut self, tree: &TileTree) -> RepairAnswer;
     fn is_sound(&mut self, tree: &TileTree) -> bool;

@@ -6,9 +6,9 @@ extern crate alloc;
 pub mod check;
 pub mod engine;
 pub mod generate;
-pub mod value;
-pub mod original;
 pub mod model;
+pub mod original;
+pub mod value;
 pub mod wire;
 
 // The original's files name each other and their shims from the crate's root.

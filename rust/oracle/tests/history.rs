@@ -16,7 +16,9 @@ const RUNS: u64 = 400;
 const OPERATIONS: u64 = 300;
 
 fn is_empty(tree: &TileTree) -> bool {
-    tree.slots.iter().all(|slot| !matches!(slot.kind, Kind::Pane(_)) && slot.panes.entries().is_empty())
+    tree.slots
+        .iter()
+        .all(|slot| !matches!(slot.kind, Kind::Pane(_)) && slot.panes.entries().is_empty())
 }
 
 #[test]

@@ -121,7 +121,8 @@ fn handles_run_past_a_split_with_no_length_left() {
 fn layout_input_at_and_past_its_limits() {
     const LIMIT: f64 = 1_048_576.0;
     let number = |input: &LayoutInput| {
-        let [a, b] = [Original.layout(&row(&[1.0; 2]), input), Model.layout(&row(&[1.0; 2]), input)];
+        let [a, b] =
+            [Original.layout(&row(&[1.0; 2]), input), Model.layout(&row(&[1.0; 2]), input)];
         assert_eq!(a.refusal, b.refusal);
         a.refusal.map_or(0, |refusal| refusal.number)
     };

@@ -5,9 +5,7 @@ mod common;
 
 use common::*;
 use oracle::original::bare_apply;
-use oracle::value::{
-    DockTarget, Kind, LayoutInput, Rect, Slot, TileOp, TileTree, same_tree_bits,
-};
+use oracle::value::{DockTarget, Kind, LayoutInput, Rect, Slot, TileOp, TileTree, same_tree_bits};
 
 /// The number that both answer; a refusal hands back the tree as given.
 fn answers(tree: &TileTree, op: TileOp, expected: u64) {
@@ -195,7 +193,8 @@ fn own_group_emptied_by_a_move() {
         assert_eq!(reals(&across.tree.slots[0].shares), [3.0, 1.0], "the place keeps its share");
         assert_eq!(children(&across.tree.slots[0]), [1, 3]);
 
-        let root = engine.apply(&tree(&[Slot::tabs(&[2], 0, Left)]), &move_pane(2, DockTarget::Root));
+        let root =
+            engine.apply(&tree(&[Slot::tabs(&[2], 0, Left)]), &move_pane(2, DockTarget::Root));
         assert_eq!(number(&root), 0);
         assert_eq!(root.tree.root, id(1), "a new slot");
         assert_eq!(root.tree.slots[1].kind, Kind::Tabs(Top));

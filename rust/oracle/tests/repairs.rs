@@ -7,7 +7,7 @@ use oracle::check::Kind as Case;
 use oracle::engine::Engine;
 use oracle::generate::hostile::arena;
 use oracle::model::Model;
-use oracle::value::{Action, Reals, Slot, Tiles, TileTree, same_tree};
+use oracle::value::{Action, Reals, Slot, TileTree, Tiles, same_tree};
 
 fn repairs(tree: &TileTree, expected: &[Action]) {
     on_both(|engine| {
@@ -90,13 +90,7 @@ fn a_ring_of_splits_is_cut() {
         Slot::pane(2),
         Slot::pane(3),
     ]);
-    repairs(
-        &ring,
-        &[
-            Action::RemovedInvalidNode(id(0)),
-            Action::CollapsedSplit(id(1)),
-        ],
-    );
+    repairs(&ring, &[Action::RemovedInvalidNode(id(0)), Action::CollapsedSplit(id(1))]);
     on_both(|engine| assert!(!engine.is_sound(&ring)));
 }
 

@@ -56,7 +56,10 @@ fn survey(kind: Kind, seed: u64, case: u64, counts: &mut Counts) {
             let answer = Model.repair(&tree);
             add(counts, refusal(answer.refusal));
             add(counts, format!("sound {}", Model.is_sound(&tree)));
-            add(counts, format!("actions from {:>4}", answer.actions.len().next_power_of_two() / 2));
+            add(
+                counts,
+                format!("actions from {:>4}", answer.actions.len().next_power_of_two() / 2),
+            );
             add(counts, format!("tiles given from {:>2}", tiles(&tree) / 8 * 8));
             add(counts, format!("tiles left from {:>2}", tiles(&answer.tree) / 8 * 8));
             for action in answer.actions {

@@ -6,7 +6,7 @@ use super::reals;
 use super::rng::Rng;
 use super::trees::{scattered, sound_tree};
 use crate::value::{
-    Axis, Ids, Kind, Reals, SLOTS, Slot, TabBarPlacement, TileId, Tiles, TileTree, WIDTH,
+    Axis, Ids, Kind, Reals, SLOTS, Slot, TabBarPlacement, TileId, TileTree, Tiles, WIDTH,
 };
 
 const FAR_IDS: [u64; 6] = [64, 65, 127, 1 << 32, (1 << 32) + 3, u64::MAX];
@@ -42,7 +42,8 @@ fn damaged(rng: &mut Rng) -> TileTree {
 
 fn damage(rng: &mut Rng, tree: &mut TileTree) {
     let occupied: Vec<usize> = (0..SLOTS).filter(|&at| !tree.slots[at].is_empty()).collect();
-    let at = if occupied.is_empty() || rng.once_in(12) { rng.index(SLOTS) } else { rng.pick(&occupied) };
+    let at =
+        if occupied.is_empty() || rng.once_in(12) { rng.index(SLOTS) } else { rng.pick(&occupied) };
     match rng.below(24) {
         0 => tree.slots[at] = Slot::EMPTY,
         1 => tree.slots[at] = wild_slot(rng),
@@ -164,9 +165,16 @@ fn chain(rng: &mut Rng) -> TileTree {
     let leaves = depth < 32;
     for at in 0..depth {
         let leaf = (63 - at) as u64;
-        let children = if leaves { [at as u64 + 1, leaf] } else { [at as u64 + 1, rng.pick(&FAR_IDS)] };
+        let children =
+            if leaves { [at as u64 + 1, leaf] } else { [at as u64 + 1, rng.pick(&FAR_IDS)] };
         let shares = [any_share(rng), any_share(rng)];
-        let axis = if rng.once_in(4) { axis(rng) } else if at % 2 == 0 { Axis::Horizontal } else { Axis::Vertical };
+        let axis = if rng.once_in(4) {
+            axis(rng)
+        } else if at % 2 == 0 {
+            Axis::Horizontal
+        } else {
+            Axis::Vertical
+        };
         tree.slots[at] = Slot::split(axis, &children, &shares, &[any_minimum(rng)]);
         if leaves {
             tree.slots[leaf as usize] = Slot::pane(leaf);
@@ -223,10 +231,15 @@ fn same_axis_nest(rng: &mut Rng) -> TileTree {
         if level + 1 < levels as usize {
             children.insert(rng.index(children.len() + 1), level as u64 + 1);
         }
-        let shares: Vec<f64> =
-            children.iter().map(|_| if rng.once_in(2) { reals::extreme(rng) } else { 1.0 }).collect();
-        let minima: Vec<f64> =
-            if rng.once_in(3) { children.iter().map(|_| reals::good_minimum(rng)).collect() } else { Vec::new() };
+        let shares: Vec<f64> = children
+            .iter()
+            .map(|_| if rng.once_in(2) { reals::extreme(rng) } else { 1.0 })
+            .collect();
+        let minima: Vec<f64> = if rng.once_in(3) {
+            children.iter().map(|_| reals::good_minimum(rng)).collect()
+        } else {
+            Vec::new()
+        };
         tree.slots[level] = Slot::split(along, &children, &shares, &minima);
     }
     tree

@@ -3,8 +3,12 @@
 use super::rng::Rng;
 
 const TINY: f64 = f64::from_bits(1);
-const SUBNORMALS: [f64; 4] =
-    [TINY, f64::from_bits(2), f64::from_bits(0x0008_0000_0000_0001), f64::from_bits(0x000f_ffff_ffff_ffff)];
+const SUBNORMALS: [f64; 4] = [
+    TINY,
+    f64::from_bits(2),
+    f64::from_bits(0x0008_0000_0000_0001),
+    f64::from_bits(0x000f_ffff_ffff_ffff),
+];
 const HUGE: [f64; 5] = [1e308, f64::MAX, 8.9e307, 1e300, 1e200];
 const SMALL: [f64; 5] = [f64::MIN_POSITIVE, 1e-300, 1e-200, 1e-160, 5e-309];
 const BAD_SHARES: [f64; 7] = [0.0, -0.0, -1.0, f64::NAN, f64::INFINITY, f64::NEG_INFINITY, -TINY];

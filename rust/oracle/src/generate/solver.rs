@@ -41,9 +41,8 @@ fn everyday(rng: &mut Rng, count: usize) -> SolverInput {
 
 fn extreme(rng: &mut Rng, count: usize) -> SolverInput {
     let shares: Vec<f64> = (0..count).map(|_| reals::extreme(rng)).collect();
-    let minima: Vec<f64> = (0..count)
-        .map(|_| if rng.once_in(2) { 0.0 } else { reals::extreme(rng) })
-        .collect();
+    let minima: Vec<f64> =
+        (0..count).map(|_| if rng.once_in(2) { 0.0 } else { reals::extreme(rng) }).collect();
     of(reals::extreme(rng), &shares, &minima)
 }
 
@@ -73,7 +72,12 @@ fn many_passes(rng: &mut Rng, count: usize) -> SolverInput {
     shuffle_pairs(rng, total, shares, minima)
 }
 
-fn shuffle_pairs(rng: &mut Rng, total: f64, mut shares: Vec<f64>, mut minima: Vec<f64>) -> SolverInput {
+fn shuffle_pairs(
+    rng: &mut Rng,
+    total: f64,
+    mut shares: Vec<f64>,
+    mut minima: Vec<f64>,
+) -> SolverInput {
     for at in (1..shares.len()).rev() {
         let other = rng.index(at + 1);
         shares.swap(at, other);
@@ -94,7 +98,13 @@ fn tied(rng: &mut Rng, count: usize) -> SolverInput {
             match rng.below(6) {
                 0 => 0.0,
                 1 => exact.next_up().min(f64::MAX),
-                2 => if exact > 0.0 { exact.next_down() } else { 0.0 },
+                2 => {
+                    if exact > 0.0 {
+                        exact.next_down()
+                    } else {
+                        0.0
+                    }
+                }
                 3 => exact / 2.0,
                 _ => exact,
             }
@@ -111,7 +121,13 @@ fn minima_about_total(rng: &mut Rng, count: usize) -> SolverInput {
     let total = match rng.below(5) {
         0 => sum,
         1 => sum.next_up(),
-        2 => if sum > 0.0 { sum.next_down() } else { 0.0 },
+        2 => {
+            if sum > 0.0 {
+                sum.next_down()
+            } else {
+                0.0
+            }
+        }
         3 => sum / 2.0,
         _ => sum * 1.01,
     };

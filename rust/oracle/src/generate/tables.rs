@@ -120,7 +120,13 @@ impl Maker {
     fn split_row(&mut self, rng: &mut Rng, axis: u8, children: usize) {
         let minima = if rng.once_in(3) { rng.index(children + 1) } else { 0 };
         let shares = children as u16;
-        self.parts.rows.push(Row { kind: 2, mode: axis, count: shares, extra: shares, minima: minima as u16 });
+        self.parts.rows.push(Row {
+            kind: 2,
+            mode: axis,
+            count: shares,
+            extra: shares,
+            minima: minima as u16,
+        });
         self.parts.shares.extend((0..children).map(|_| reals::good_share(rng)));
         self.parts.minima.extend((0..minima).map(|_| reals::good_minimum(rng)));
     }
@@ -222,7 +228,8 @@ fn wrong_shares(rng: &mut Rng, parts: &mut Parts) {
         return;
     }
     let at = rng.pick(&splits);
-    let place: usize = parts.rows[..at].iter().filter(|row| row.kind == 2).map(|row| row.extra as usize).sum();
+    let place: usize =
+        parts.rows[..at].iter().filter(|row| row.kind == 2).map(|row| row.extra as usize).sum();
     if rng.once_in(2) && parts.rows[at].extra > 0 {
         parts.rows[at].extra -= 1;
         parts.shares.remove(place);
@@ -243,7 +250,8 @@ fn wrong_minima(rng: &mut Rng, parts: &mut Parts) {
     }
     let at = rng.pick(&splits);
     let place: usize = parts.rows[..at].iter().map(|row| row.minima as usize).sum();
-    let more = parts.rows[at].count - parts.rows[at].minima.min(parts.rows[at].count) + rng.pick(&[0, 1, 2, 15]);
+    let more = parts.rows[at].count - parts.rows[at].minima.min(parts.rows[at].count)
+        + rng.pick(&[0, 1, 2, 15]);
     parts.rows[at].minima += more;
     for _ in 0..more {
         parts.minima.insert(place, reals::good_minimum(rng));
@@ -296,11 +304,12 @@ fn damage(rng: &mut Rng, mut bytes: Vec<u8>) -> Vec<u8> {
     match rng.below(6) {
         0 => bytes.truncate(rng.index(bytes.len() + 1)),
         1 => bytes.extend((0..rng.between(1, 9)).map(|_| 0)),
-        2 => bytes[rng.index(4)] = rng.next() as u8,
+        2 => bytes[rng.index(4)] = rng.bits() as u8,
         _ => {
             for _ in 0..rng.between(1, 2) {
                 let at = rng.index(bytes.len());
-                bytes[at] = if rng.once_in(2) { bytes[at] ^ (1 << rng.below(8)) } else { rng.next() as u8 };
+                bytes[at] =
+                    if rng.once_in(2) { bytes[at] ^ (1 << rng.below(8)) } else { rng.bits() as u8 };
             }
         }
     }

@@ -126,7 +126,7 @@ fn revision(rng: &mut Rng) -> u64 {
     match rng.below(12) {
         0 => u64::MAX,
         1 => u64::MAX - rng.between(1, 3),
-        2 => rng.next(),
+        2 => rng.bits(),
         _ => rng.below(300),
     }
 }
@@ -170,7 +170,7 @@ fn leave_dirt(rng: &mut Rng, tree: &mut TileTree) {
     for slot in tree.slots.iter_mut() {
         let is_group = matches!(slot.kind, Kind::Tabs(_));
         let is_split = matches!(slot.kind, Kind::Split(_));
-        let dirt = rng.next();
+        let dirt = rng.bits();
         if !is_group {
             slot.active = dirt;
         }

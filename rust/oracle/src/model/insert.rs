@@ -3,7 +3,7 @@
 use super::numbers::{aligned_minima, compact_minima, larger};
 use super::operations::Change;
 use crate::value::{
-    Axis, Ids, Kind, Placement, Reals, Refusal, SLOTS, Slot, TileId, Tiles, TileTree, WIDTH,
+    Axis, Ids, Kind, Placement, Reals, Refusal, SLOTS, Slot, TileId, TileTree, Tiles, WIDTH,
 };
 
 /// No share that insertion makes is below this.

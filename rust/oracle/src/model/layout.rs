@@ -39,12 +39,7 @@ fn good_input(input: &LayoutInput) -> bool {
 fn without_minus_zeros(input: &LayoutInput) -> LayoutInput {
     let Rect { x0, y0, x1, y1 } = input.outer;
     LayoutInput {
-        outer: Rect {
-            x0: plus_zero(x0),
-            y0: plus_zero(y0),
-            x1: plus_zero(x1),
-            y1: plus_zero(y1),
-        },
+        outer: Rect { x0: plus_zero(x0), y0: plus_zero(y0), x1: plus_zero(x1), y1: plus_zero(y1) },
         handle: plus_zero(input.handle),
         bar: plus_zero(input.bar),
         min_width: plus_zero(input.min_width),
@@ -105,7 +100,13 @@ impl Walk<'_> {
         for (at, &pane) in panes.iter().enumerate() {
             let rect = tab_rect(bar, placement, at, panes.len());
             let index = at as u64;
-            self.frame.tabs.push(TabFrame { group, pane, rect, index, active: index == slot.active });
+            self.frame.tabs.push(TabFrame {
+                group,
+                pane,
+                rect,
+                index,
+                active: index == slot.active,
+            });
             self.frame.paint_order.push(FrameItemId::Tab { group, pane });
         }
     }
@@ -119,13 +120,23 @@ impl Walk<'_> {
             let index = at as u64;
             let end = cursor + lengths[at];
             let child_rect = slice_along(rect, axis, cursor, end);
-            self.frame.split_children.push(SplitChildFrame { split: id, child, index, rect: child_rect });
+            self.frame.split_children.push(SplitChildFrame {
+                split: id,
+                child,
+                index,
+                rect: child_rect,
+            });
             self.lay_tile(child, child_rect);
             cursor = end;
             if at + 1 < children.len() {
                 let end = cursor + handle;
                 let rect = slice_along(rect, axis, cursor, end);
-                self.frame.split_handles.push(SplitHandleFrame { split: id, handle: index, axis, rect });
+                self.frame.split_handles.push(SplitHandleFrame {
+                    split: id,
+                    handle: index,
+                    axis,
+                    rect,
+                });
                 self.frame.paint_order.push(FrameItemId::SplitHandle { split: id, handle: index });
                 cursor = end;
             }

@@ -46,8 +46,7 @@ fn applied(tree: &TileTree, op: &TileOp) -> Result<TileTree, Refusal> {
     if !is_sound(tree) {
         return Err(Refusal::NOT_SOUND);
     }
-    let mut change =
-        Change { tree: tree.clone(), empty_at_start: tree.empty_slots(), taken: 0 };
+    let mut change = Change { tree: tree.clone(), empty_at_start: tree.empty_slots(), taken: 0 };
     let changed = match *op {
         TileOp::Activate { pane } => activate(&mut change, pane)?,
         TileOp::Close { pane } => close(&mut change, pane)?,
@@ -60,8 +59,7 @@ fn applied(tree: &TileTree, op: &TileOp) -> Result<TileTree, Refusal> {
     if !changed {
         return Ok(tree.clone());
     }
-    change.tree.revision =
-        tree.revision.checked_add(1).ok_or(Refusal::REVISION_EXHAUSTED)?;
+    change.tree.revision = tree.revision.checked_add(1).ok_or(Refusal::REVISION_EXHAUSTED)?;
     // Slots that the change has filled are gone for the fresh group as well,
     // but it is only needed where the change made no tile.
     repaired_with_empty(&change.tree, &change.empty_at_start).map(|(tree, _)| tree)
@@ -74,7 +72,9 @@ fn find_pane(tree: &TileTree, pane: u64) -> Result<(TileId, Option<usize>), Refu
             let slot = &tree.slots[at];
             let place = match slot.kind {
                 Kind::Pane(other) if other == pane => None,
-                Kind::Tabs(_) => Some(slot.panes.entries().iter().position(|&other| other == pane)?),
+                Kind::Tabs(_) => {
+                    Some(slot.panes.entries().iter().position(|&other| other == pane)?)
+                }
                 _ => return None,
             };
             Some((TileId { slot: at as u64 }, place))

@@ -2,8 +2,8 @@
 
 use super::numbers::{aligned_minima, compact_minima, repaired_shares};
 use crate::value::{
-    Action, Axis, Kind, Reals, Refusal, RepairAnswer, SLOTS, Slot, TabBarPlacement, TileId, Tiles,
-    TileTree, WIDTH, same_tree,
+    Action, Axis, Kind, Reals, Refusal, RepairAnswer, SLOTS, Slot, TabBarPlacement, TileId,
+    TileTree, Tiles, WIDTH, same_tree,
 };
 
 pub fn repair(tree: &TileTree) -> RepairAnswer {
@@ -17,14 +17,17 @@ pub fn repair(tree: &TileTree) -> RepairAnswer {
 
 /// Accepted, no action, an equal tree; or the lone empty root.
 pub fn is_sound(tree: &TileTree) -> bool {
-    is_lone_empty_root(tree) || repaired(tree).is_ok_and(|(out, actions)| actions.is_empty() && same_tree(&out, tree))
+    is_lone_empty_root(tree)
+        || repaired(tree).is_ok_and(|(out, actions)| actions.is_empty() && same_tree(&out, tree))
 }
 
 fn is_lone_empty_root(tree: &TileTree) -> bool {
     let occupied = tree.slots.iter().filter(|slot| !slot.is_empty()).count();
     occupied == 1
         && tree.get(tree.root).is_some_and(|slot| {
-            slot.kind == Kind::Tabs(TabBarPlacement::Hidden) && slot.panes.len == 0 && slot.active == 0
+            slot.kind == Kind::Tabs(TabBarPlacement::Hidden)
+                && slot.panes.len == 0
+                && slot.active == 0
         })
 }
 
@@ -166,7 +169,12 @@ impl Walk {
         Some(id)
     }
 
-    fn repair_split(&mut self, id: TileId, axis: Axis, slot: Slot) -> Result<Option<TileId>, Refusal> {
+    fn repair_split(
+        &mut self,
+        id: TileId,
+        axis: Axis,
+        slot: Slot,
+    ) -> Result<Option<TileId>, Refusal> {
         let given = slot.children.entries();
         let shares = repaired_shares(given.len(), slot.shares.entries());
         let minima = aligned_minima(given.len(), slot.minima.entries());

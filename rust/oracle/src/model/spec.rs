@@ -23,7 +23,8 @@ fn built(bytes: &[u8]) -> Result<TileTree, Refusal> {
         return Err(Refusal::TOO_WIDE);
     }
     check_rows(&table)?;
-    let mut builder = Builder { table: &table, row: 0, used: Used::default(), tree: TileTree::blank() };
+    let mut builder =
+        Builder { table: &table, row: 0, used: Used::default(), tree: TileTree::blank() };
     builder.build();
     repaired(&builder.tree).map(|(tree, _)| tree)
 }
@@ -128,7 +129,8 @@ impl Builder<'_> {
             TABS => Slot::tabs(used.panes(&row, self.table), row.extra, bar(row.mode)),
             _ => {
                 let children: Vec<u64> = (0..row.count).map(|_| self.build()).collect();
-                let (shares, minima) = (used.shares(&row, self.table), used.minima(&row, self.table));
+                let (shares, minima) =
+                    (used.shares(&row, self.table), used.minima(&row, self.table));
                 Slot::split(axis(row.mode), &children, shares, minima)
             }
         };

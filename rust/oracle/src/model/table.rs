@@ -65,7 +65,8 @@ pub fn read(bytes: &[u8]) -> Option<Table> {
 
 fn row(bytes: [u8; 8]) -> Option<Row> {
     let wide = |at: usize| u64::from(u16::from_le_bytes([bytes[at], bytes[at + 1]]));
-    let row = Row { kind: bytes[0], mode: bytes[1], count: wide(2), extra: wide(4), minima: wide(6) };
+    let row =
+        Row { kind: bytes[0], mode: bytes[1], count: wide(2), extra: wide(4), minima: wide(6) };
     let good = match row.kind {
         PANE => row.mode == 0 && row.count == 1 && row.extra == 0 && row.minima == 0,
         TABS => row.mode <= 4 && row.minima == 0,

@@ -41,11 +41,8 @@ impl Names {
 
     /// Back, for an id that was in the arena handed in.
     pub fn back(&self, id: TileId) -> value::TileId {
-        let slot = if id.0 < FIRST_BAD {
-            u64::from(id.0)
-        } else {
-            self.bad[(id.0 - FIRST_BAD) as usize]
-        };
+        let slot =
+            if id.0 < FIRST_BAD { u64::from(id.0) } else { self.bad[(id.0 - FIRST_BAD) as usize] };
         value::TileId { slot }
     }
 

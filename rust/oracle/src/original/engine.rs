@@ -10,13 +10,13 @@ use super::frames::{frame_back, input_is_good, input_there};
 use super::table::spec_of;
 use crate::counted::solve_counted;
 use crate::engine::Engine;
+use crate::snapshot::RepairAction;
 use crate::tree::{change, repair, slot_count, slots};
 use crate::util::solve_lengths_with_min;
 use crate::value::{
     self, Action, DockTarget, Frame, Kind, LayoutAnswer, LayoutInput, Reals, Refusal, RepairAnswer,
     SLOTS, SolveAnswer, TileOp, TreeAnswer, same_tree, same_tree_bits,
 };
-use crate::snapshot::RepairAction;
 use crate::{TileError, TileNode, TileSpecError, TileTree};
 
 pub struct Original;

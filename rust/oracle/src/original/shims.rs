@@ -91,11 +91,7 @@ impl TileNode {
 
     /// Document 01: a move to the root makes "a Top group with the pane".
     pub fn tabs(panes: Vec<PaneId>) -> Self {
-        Self::Tabs(TabNode {
-            panes,
-            active: 0,
-            placement: TabBarPlacement::Top,
-        })
+        Self::Tabs(TabNode { panes, active: 0, placement: TabBarPlacement::Top })
     }
 }
 
@@ -112,52 +108,21 @@ pub struct LayoutInput {
 #[derive(Clone, Copy, Debug, PartialEq)]
 pub enum DockTarget {
     Root,
-    Split {
-        tile: TileId,
-        axis: Axis,
-        placement: Placement,
-        ratio: f64,
-    },
-    TabInto {
-        group: TileId,
-        index: Option<usize>,
-    },
+    Split { tile: TileId, axis: Axis, placement: Placement, ratio: f64 },
+    TabInto { group: TileId, index: Option<usize> },
 }
 
 #[derive(Clone, Debug, PartialEq)]
 // MoveTabGroup and SetSplitShares are named by tree.rs and wait (document 01).
 #[allow(dead_code)]
 pub enum TileOp {
-    ActivatePane {
-        pane: PaneId,
-    },
-    ClosePane {
-        pane: PaneId,
-    },
-    SplitPane {
-        pane: PaneId,
-        axis: Axis,
-        new_pane: PaneId,
-        placement: Placement,
-        share: f64,
-    },
-    MovePane {
-        pane: PaneId,
-        target: DockTarget,
-    },
-    MoveTabGroup {
-        group: TileId,
-        target: DockTarget,
-    },
-    ReorderTab {
-        group: TileId,
-        pane: PaneId,
-        index: usize,
-    },
-    SetSplitShares {
-        split: TileId,
-        shares: Vec<f64>,
-    },
+    ActivatePane { pane: PaneId },
+    ClosePane { pane: PaneId },
+    SplitPane { pane: PaneId, axis: Axis, new_pane: PaneId, placement: Placement, share: f64 },
+    MovePane { pane: PaneId, target: DockTarget },
+    MoveTabGroup { group: TileId, target: DockTarget },
+    ReorderTab { group: TileId, pane: PaneId, index: usize },
+    SetSplitShares { split: TileId, shares: Vec<f64> },
 }
 
 #[derive(Clone, Debug, PartialEq, Eq)]
