@@ -10,10 +10,11 @@
 use std::process::ExitCode;
 use std::time::Instant;
 
-use oracle::check::{Difference, KINDS, Kind, compare};
+use oracle::check::{Input, KINDS, Kind, compare, shown_answer, shown_input};
 use oracle::engine::Engine;
 use oracle::model::Model;
 use oracle::original::Original;
+use oracle::shrink::shrunk;
 
 const USAGE: &str = "compare [--kind solve|repair|operations|layout|spec] [--seed N] [--count N] \
                      [--case N] [--left original|model] [--right original|model]";
@@ -82,8 +83,8 @@ fn run(kind: Kind, request: &mut Request) -> bool {
     let started = Instant::now();
     let count = (cases.end - cases.start) * kind.answers();
     for case in cases {
-        if let Err(difference) = compare(kind, request.seed, case, left, right) {
-            show(kind, request.seed, case, &difference, left.name(), right.name());
+        if let Err(input) = compare(kind, request.seed, case, left, right) {
+            show(kind, request.seed, case, input, left, right);
             return false;
         }
     }
@@ -99,15 +100,28 @@ fn run(kind: Kind, request: &mut Request) -> bool {
     true
 }
 
-fn show(kind: Kind, seed: u64, case: u64, difference: &Difference, left: &str, right: &str) {
+/// The difference as it was found, the command that makes it again, and the
+/// same difference on the smallest input that still shows it.
+fn show(
+    kind: Kind,
+    seed: u64,
+    case: u64,
+    input: Input,
+    left: &mut dyn Engine,
+    right: &mut dyn Engine,
+) {
     println!("{} differs at case {case} of seed {seed}", kind.name());
     println!("--- to see it again, from the folder rust:");
     println!(
         "cargo run --release -q --bin compare -- --kind {} --seed {seed} --case {case} \
-         --left {left} --right {right}",
-        kind.name()
+         --left {} --right {}",
+        kind.name(),
+        left.name(),
+        right.name()
     );
-    println!("--- input\n{}", difference.input);
-    println!("--- {left}\n{}", difference.left);
-    println!("--- {right}\n{}", difference.right);
+    println!("--- input as found\n{}", shown_input(&input));
+    let input = shrunk(input, left, right);
+    println!("--- input made smaller\n{}", shown_input(&input));
+    println!("--- {} answers\n{}", left.name(), shown_answer(&input, left));
+    println!("--- {} answers\n{}", right.name(), shown_answer(&input, right));
 }

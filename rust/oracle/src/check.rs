@@ -51,32 +51,86 @@ impl Kind {
     }
 }
 
-/// Inputs that two implementations answer differently.
-pub struct Difference {
-    pub input: String,
-    pub left: String,
-    pub right: String,
+/// What is put to an implementation.
+#[derive(Clone)]
+pub enum Input {
+    Solve(SolverInput),
+    Repair(TileTree),
+    Operation(TileTree, TileOp),
+    Layout(TileTree, LayoutInput),
+    Spec(Vec<u8>),
 }
 
-/// Puts one case to both and compares every part of both answers.
+/// Puts one case to both; the error is the input that they answer differently.
 pub fn compare(
     kind: Kind,
     seed: u64,
     case: u64,
     left: &mut dyn Engine,
     right: &mut dyn Engine,
-) -> Result<(), Difference> {
+) -> Result<(), Input> {
     let mut rng = kind.rng(seed, case);
-    match kind {
-        Kind::Solve => compare_solve(&solver_input(&mut rng), left, right),
-        Kind::Repair => compare_repair(&arena(&mut rng), left, right),
-        Kind::Operations => compare_run(&mut rng, left, right),
+    let input = match kind {
+        Kind::Solve => Input::Solve(solver_input(&mut rng)),
+        Kind::Repair => Input::Repair(arena(&mut rng)),
+        Kind::Operations => return compare_run(&mut rng, left, right),
         Kind::Layout => {
             let (tree, input) = layout_case(&mut rng);
-            compare_layout(&tree, &input, left, right)
+            Input::Layout(tree, input)
         }
-        Kind::Spec => compare_spec(&table(&mut rng), left, right),
+        Kind::Spec => Input::Spec(table(&mut rng)),
+    };
+    if differs(&input, left, right) { Err(input) } else { Ok(()) }
+}
+
+/// Each operation is put to the tree that the one before it left.
+fn compare_run(rng: &mut Rng, left: &mut dyn Engine, right: &mut dyn Engine) -> Result<(), Input> {
+    let mut tree = run_start(rng);
+    for _ in 0..RUN {
+        let op = operation(rng, &tree);
+        let (a, b) = (left.apply(&tree, &op), right.apply(&tree, &op));
+        if written(|to| to.apply_answer(&tree, &a)) != written(|to| to.apply_answer(&tree, &b)) {
+            return Err(Input::Operation(tree, op));
+        }
+        tree = a.tree;
     }
+    Ok(())
+}
+
+/// Every part of both answers is compared, as it is written.
+pub fn differs(input: &Input, left: &mut dyn Engine, right: &mut dyn Engine) -> bool {
+    written_answer(input, left) != written_answer(input, right)
+}
+
+fn written_answer(input: &Input, engine: &mut dyn Engine) -> Vec<u8> {
+    match input {
+        Input::Solve(input) => {
+            let answer = engine.solve(input.total, &input.shares, &input.minima);
+            written(|to| to.solve_answer(&answer))
+        }
+        Input::Repair(tree) => {
+            let (answer, sound) = (engine.repair(tree), engine.is_sound(tree));
+            written(|to| to.repair_answer(tree, sound, &answer))
+        }
+        Input::Operation(tree, op) => {
+            let answer = engine.apply(tree, op);
+            written(|to| to.apply_answer(tree, &answer))
+        }
+        Input::Layout(tree, input) => {
+            let answer = engine.layout(tree, input);
+            written(|to| to.layout_answer(&answer))
+        }
+        Input::Spec(bytes) => {
+            let answer = engine.from_spec(bytes);
+            written(|to| to.spec_answer(&answer))
+        }
+    }
+}
+
+fn written(write: impl Fn(&mut Writer)) -> Vec<u8> {
+    let mut writer = Writer::default();
+    write(&mut writer);
+    writer.bytes
 }
 
 /// Mostly sound trees; now and then a hostile arena, to be refused.
@@ -90,113 +144,40 @@ pub fn run_start(rng: &mut Rng) -> TileTree {
     if rng.once_in(40) { arena(rng) } else { sound_tree(rng) }
 }
 
-fn written(write: impl Fn(&mut Writer)) -> Vec<u8> {
-    let mut writer = Writer::default();
-    write(&mut writer);
-    writer.bytes
-}
-
-fn judge(
-    same: bool,
-    input: impl Fn() -> String,
-    left: impl Fn() -> String,
-    right: impl Fn() -> String,
-) -> Result<(), Difference> {
-    if same {
-        return Ok(());
+/// An input for reading.
+pub fn shown_input(input: &Input) -> String {
+    match input {
+        Input::Solve(input) => format!(
+            "total {:?}\nshares[{}] {:?}\nminima[{}] {:?}",
+            input.total,
+            input.shares.len,
+            input.shares.entries(),
+            input.minima.len,
+            input.minima.entries()
+        ),
+        Input::Repair(tree) => shown(tree),
+        Input::Operation(tree, op) => format!("{op:?}\n{}", shown(tree)),
+        Input::Layout(tree, input) => format!("{input:?}\n{}", shown(tree)),
+        Input::Spec(bytes) => format!("{bytes:02x?}"),
     }
-    Err(Difference { input: input(), left: left(), right: right() })
 }
 
-fn compare_solve(
-    input: &SolverInput,
-    left: &mut dyn Engine,
-    right: &mut dyn Engine,
-) -> Result<(), Difference> {
-    let a = left.solve(input.total, &input.shares, &input.minima);
-    let b = right.solve(input.total, &input.shares, &input.minima);
-    judge(
-        written(|to| to.solve_answer(&a)) == written(|to| to.solve_answer(&b)),
-        || format!("total {:?}\nshares {:?}\nminima {:?}", input.total, input.shares, input.minima),
-        || format!("{a:?}"),
-        || format!("{b:?}"),
-    )
-}
-
-fn compare_repair(
-    tree: &TileTree,
-    left: &mut dyn Engine,
-    right: &mut dyn Engine,
-) -> Result<(), Difference> {
-    let (a, a_sound) = (left.repair(tree), left.is_sound(tree));
-    let (b, b_sound) = (right.repair(tree), right.is_sound(tree));
-    judge(
-        written(|to| to.repair_answer(tree, a_sound, &a))
-            == written(|to| to.repair_answer(tree, b_sound, &b)),
-        || shown(tree),
-        || format!("sound {a_sound} {:?}\n{:?}\n{}", a.refusal, a.actions, shown(&a.tree)),
-        || format!("sound {b_sound} {:?}\n{:?}\n{}", b.refusal, b.actions, shown(&b.tree)),
-    )
-}
-
-fn compare_run(
-    rng: &mut Rng,
-    left: &mut dyn Engine,
-    right: &mut dyn Engine,
-) -> Result<(), Difference> {
-    let mut tree = run_start(rng);
-    for _ in 0..RUN {
-        let op = operation(rng, &tree);
-        tree = compare_operation(&tree, &op, left, right)?;
+/// An answer for reading.
+pub fn shown_answer(input: &Input, engine: &mut dyn Engine) -> String {
+    let tree = |answer: TreeAnswer| format!("{:?}\n{}", answer.refusal, shown(&answer.tree));
+    match input {
+        Input::Solve(input) => {
+            format!("{:?}", engine.solve(input.total, &input.shares, &input.minima))
+        }
+        Input::Repair(given) => {
+            let (answer, sound) = (engine.repair(given), engine.is_sound(given));
+            let after = shown(&answer.tree);
+            format!("sound {sound}, {:?}\n{:?}\n{after}", answer.refusal, answer.actions)
+        }
+        Input::Operation(given, op) => tree(engine.apply(given, op)),
+        Input::Layout(given, input) => format!("{:#?}", engine.layout(given, input)),
+        Input::Spec(bytes) => tree(engine.from_spec(bytes)),
     }
-    Ok(())
-}
-
-fn compare_operation(
-    tree: &TileTree,
-    op: &TileOp,
-    left: &mut dyn Engine,
-    right: &mut dyn Engine,
-) -> Result<TileTree, Difference> {
-    let (a, b) = (left.apply(tree, op), right.apply(tree, op));
-    let show = |answer: &TreeAnswer| format!("{:?}\n{}", answer.refusal, shown(&answer.tree));
-    judge(
-        written(|to| to.apply_answer(tree, &a)) == written(|to| to.apply_answer(tree, &b)),
-        || format!("{op:?}\n{}", shown(tree)),
-        || show(&a),
-        || show(&b),
-    )?;
-    Ok(a.tree)
-}
-
-fn compare_layout(
-    tree: &TileTree,
-    input: &LayoutInput,
-    left: &mut dyn Engine,
-    right: &mut dyn Engine,
-) -> Result<(), Difference> {
-    let (a, b) = (left.layout(tree, input), right.layout(tree, input));
-    judge(
-        written(|to| to.layout_answer(&a)) == written(|to| to.layout_answer(&b)),
-        || format!("{input:?}\n{}", shown(tree)),
-        || format!("{a:#?}"),
-        || format!("{b:#?}"),
-    )
-}
-
-fn compare_spec(
-    bytes: &[u8],
-    left: &mut dyn Engine,
-    right: &mut dyn Engine,
-) -> Result<(), Difference> {
-    let (a, b) = (left.from_spec(bytes), right.from_spec(bytes));
-    let show = |answer: &TreeAnswer| format!("{:?}\n{}", answer.refusal, shown(&answer.tree));
-    judge(
-        written(|to| to.spec_answer(&a)) == written(|to| to.spec_answer(&b)),
-        || format!("{bytes:02x?}"),
-        || show(&a),
-        || show(&b),
-    )
 }
 
 /// A tree for reading: its occupied slots, one to a line, used parts only.

@@ -8,6 +8,7 @@ pub mod engine;
 pub mod generate;
 pub mod model;
 pub mod original;
+pub mod shrink;
 pub mod value;
 pub mod wire;
 

@@ -6,7 +6,7 @@
 use std::fs;
 use std::path::{Path, PathBuf};
 
-use oracle::check::{Kind, RUN, compare, layout_case, run_start};
+use oracle::check::{Kind, RUN, compare, layout_case, run_start, shown_input};
 use oracle::engine::Engine;
 use oracle::generate::hostile::arena;
 use oracle::generate::operations::operation;
@@ -76,8 +76,8 @@ fn write(folder: &Path, file: &File) {
 
 /// No answer is stored that the original does not give as well.
 fn confirm(kind: Kind, case: u64) {
-    if let Err(difference) = compare(kind, SEED, case, &mut Original, &mut Model) {
-        panic!("the original differs on {} case {case}:\n{}", kind.name(), difference.input);
+    if let Err(input) = compare(kind, SEED, case, &mut Original, &mut Model) {
+        panic!("the original differs on {} case {case}:\n{}", kind.name(), shown_input(&input));
     }
 }
 

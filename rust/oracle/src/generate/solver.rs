@@ -4,6 +4,7 @@ use super::reals;
 use super::rng::Rng;
 use crate::value::{Reals, WIDTH};
 
+#[derive(Clone)]
 pub struct SolverInput {
     pub total: f64,
     pub shares: Reals,
