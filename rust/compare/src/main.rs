@@ -84,7 +84,7 @@ fn run(kind: Kind, request: &mut Request) -> bool {
     let count = (cases.end - cases.start) * kind.answers();
     for case in cases {
         if let Err(input) = compare(kind, request.seed, case, left, right) {
-            show(kind, request.seed, case, input, left, right);
+            show(kind, request.seed, case, *input, left, right);
             return false;
         }
     }

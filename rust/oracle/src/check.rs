@@ -68,7 +68,7 @@ pub fn compare(
     case: u64,
     left: &mut dyn Engine,
     right: &mut dyn Engine,
-) -> Result<(), Input> {
+) -> Result<(), Box<Input>> {
     let mut rng = kind.rng(seed, case);
     let input = match kind {
         Kind::Solve => Input::Solve(solver_input(&mut rng)),
@@ -80,17 +80,21 @@ pub fn compare(
         }
         Kind::Spec => Input::Spec(table(&mut rng)),
     };
-    if differs(&input, left, right) { Err(input) } else { Ok(()) }
+    if differs(&input, left, right) { Err(Box::new(input)) } else { Ok(()) }
 }
 
 /// Each operation is put to the tree that the one before it left.
-fn compare_run(rng: &mut Rng, left: &mut dyn Engine, right: &mut dyn Engine) -> Result<(), Input> {
+fn compare_run(
+    rng: &mut Rng,
+    left: &mut dyn Engine,
+    right: &mut dyn Engine,
+) -> Result<(), Box<Input>> {
     let mut tree = run_start(rng);
     for _ in 0..RUN {
         let op = operation(rng, &tree);
         let (a, b) = (left.apply(&tree, &op), right.apply(&tree, &op));
         if written(|to| to.apply_answer(&tree, &a)) != written(|to| to.apply_answer(&tree, &b)) {
-            return Err(Input::Operation(tree, op));
+            return Err(Box::new(Input::Operation(tree, op)));
         }
         tree = a.tree;
     }
