@@ -142,9 +142,11 @@ fn plain_numbers(slot: &Slot) -> usize {
     plain(&slot.shares, 1.0) + plain(&slot.minima, 0.0)
 }
 
+type Field = fn(&mut LayoutInput) -> &mut f64;
+
 fn simpler_layouts(input: &LayoutInput) -> Vec<LayoutInput> {
     let mut simpler = Vec::new();
-    let fields: [(fn(&mut LayoutInput) -> &mut f64, f64); 8] = [
+    let fields: [(Field, f64); 8] = [
         (|input| &mut input.outer.x0, 0.0),
         (|input| &mut input.outer.y0, 0.0),
         (|input| &mut input.outer.x1, 100.0),
