@@ -7,6 +7,7 @@ use oracle::check::{KINDS, Kind, RUN, layout_case, run_start};
 use oracle::engine::Engine;
 use oracle::generate::hostile::arena;
 use oracle::generate::operations::operation;
+use oracle::generate::rng::Rng;
 use oracle::generate::solver::solver_input;
 use oracle::generate::tables::table;
 use oracle::model::Model;
@@ -45,55 +46,59 @@ fn tiles(tree: &TileTree) -> usize {
 fn survey(kind: Kind, seed: u64, case: u64, counts: &mut Counts) {
     let mut rng = kind.rng(seed, case);
     match kind {
-        Kind::Solve => {
-            let input = solver_input(&mut rng);
-            let answer = Model.solve(input.total, &input.shares, &input.minima);
-            add(counts, refusal(answer.refusal));
-            add(counts, format!("passes {:>2}", answer.passes));
-        }
-        Kind::Repair => {
-            let tree = arena(&mut rng);
-            let answer = Model.repair(&tree);
-            add(counts, refusal(answer.refusal));
-            add(counts, format!("sound {}", Model.is_sound(&tree)));
-            add(
-                counts,
-                format!("actions from {:>4}", answer.actions.len().next_power_of_two() / 2),
-            );
-            add(counts, format!("tiles given from {:>2}", tiles(&tree) / 8 * 8));
-            add(counts, format!("tiles left from {:>2}", tiles(&answer.tree) / 8 * 8));
-            for action in answer.actions {
-                add(counts, format!("action {}", name(action)));
-            }
-        }
-        Kind::Operations => {
-            let mut tree = run_start(&mut rng);
-            for _ in 0..RUN {
-                let op = operation(&mut rng, &tree);
-                let answer = Model.apply(&tree, &op);
-                let what = if answer.refusal.is_none() && answer.tree.revision == tree.revision {
-                    "unchanged".to_string()
-                } else {
-                    refusal(answer.refusal)
-                };
-                add(counts, format!("{} {what}", op_name(&op)));
-                tree = answer.tree;
-            }
-            add(counts, format!("tiles from {:>2}", tiles(&tree) / 8 * 8));
-        }
-        Kind::Layout => {
-            let (tree, input) = layout_case(&mut rng);
-            let answer = Model.layout(&tree, &input);
-            add(counts, refusal(answer.refusal));
-            add(counts, format!("panes from {:>3}", answer.frame.panes.len() / 8 * 8));
-            add(counts, format!("tabs from {:>3}", answer.frame.tabs.len() / 16 * 16));
-        }
-        Kind::Spec => {
-            let answer = Model.from_spec(&table(&mut rng));
-            add(counts, refusal(answer.refusal));
-            add(counts, format!("tiles from {:>2}", tiles(&answer.tree) / 8 * 8));
-        }
+        Kind::Solve => survey_solve(&mut rng, counts),
+        Kind::Repair => survey_repair(&mut rng, counts),
+        Kind::Operations => survey_run(&mut rng, counts),
+        Kind::Layout => survey_layout(&mut rng, counts),
+        Kind::Spec => survey_spec(&mut rng, counts),
     }
+}
+
+fn survey_solve(rng: &mut Rng, counts: &mut Counts) {
+    let input = solver_input(rng);
+    let answer = Model.solve(input.total, &input.shares, &input.minima);
+    add(counts, refusal(answer.refusal));
+    add(counts, format!("passes {:>2}", answer.passes));
+}
+
+fn survey_repair(rng: &mut Rng, counts: &mut Counts) {
+    let tree = arena(rng);
+    let answer = Model.repair(&tree);
+    add(counts, refusal(answer.refusal));
+    add(counts, format!("sound {}", Model.is_sound(&tree)));
+    add(counts, format!("actions from {:>4}", answer.actions.len().next_power_of_two() / 2));
+    add(counts, format!("tiles given from {:>2}", tiles(&tree) / 8 * 8));
+    add(counts, format!("tiles left from {:>2}", tiles(&answer.tree) / 8 * 8));
+    for action in answer.actions {
+        add(counts, format!("action {}", name(action)));
+    }
+}
+
+fn survey_run(rng: &mut Rng, counts: &mut Counts) {
+    let mut tree = run_start(rng);
+    for _ in 0..RUN {
+        let op = operation(rng, &tree);
+        let answer = Model.apply(&tree, &op);
+        let unchanged = answer.refusal.is_none() && answer.tree.revision == tree.revision;
+        let what = if unchanged { "unchanged".to_string() } else { refusal(answer.refusal) };
+        add(counts, format!("{} {what}", op_name(&op)));
+        tree = answer.tree;
+    }
+    add(counts, format!("tiles from {:>2}", tiles(&tree) / 8 * 8));
+}
+
+fn survey_layout(rng: &mut Rng, counts: &mut Counts) {
+    let (tree, input) = layout_case(rng);
+    let answer = Model.layout(&tree, &input);
+    add(counts, refusal(answer.refusal));
+    add(counts, format!("panes from {:>3}", answer.frame.panes.len() / 8 * 8));
+    add(counts, format!("tabs from {:>3}", answer.frame.tabs.len() / 16 * 16));
+}
+
+fn survey_spec(rng: &mut Rng, counts: &mut Counts) {
+    let answer = Model.from_spec(&table(rng));
+    add(counts, refusal(answer.refusal));
+    add(counts, format!("tiles from {:>2}", tiles(&answer.tree) / 8 * 8));
 }
 
 fn name(action: Action) -> &'static str {
