@@ -5,10 +5,11 @@ mod common;
 use common::*;
 use oracle::check::{Kind as Case, layout_case};
 use oracle::engine::Engine;
+use oracle::generate::rng::Rng;
 use oracle::generate::solver::solver_input;
 use oracle::model::{Model, solve_from};
 use oracle::original::Original;
-use oracle::value::{LayoutInput, Reals, Rect, Refusal};
+use oracle::value::{LayoutInput, Reals, Rect, Refusal, Slot};
 
 /// Rust's own sum of no numbers shows where it starts.
 #[test]
@@ -171,4 +172,52 @@ fn frames_stay_finite_and_their_edges_in_order() {
 
 fn finite(rect: &Rect) -> bool {
     [rect.x0, rect.y0, rect.x1, rect.y1].iter().all(|at| at.is_finite())
+}
+
+/// The edge of a tab pane may pass its opposite edge: the height, 1 + 1.5 × 2^-53,
+/// is rounded up, and a bar as high as that ends past the pane's lower edge.
+#[test]
+fn rounding_can_cross_a_tab_panes_edges() {
+    on_both(|engine| {
+        let mut thick = input(1.0, 1.5 * 2.0_f64.powi(-53));
+        thick.outer.y0 = -1.0;
+        thick.bar = 2.0;
+        let frame = engine.layout(&tree(&[Slot::tabs(&[1], 0, Top)]), &thick).frame;
+        let pane = frame.panes[0].rect;
+        assert_eq!((pane.y0, pane.y1), (2.0_f64.powi(-52), 1.5 * 2.0_f64.powi(-53)));
+        assert_eq!(frame.tab_bars[0].rect.y1, pane.y0, "the bar passes its parent's edge too");
+    });
+}
+
+/// W-209's figure: with total and shares from 2^-20 to 2^20 and minima up to
+/// 2^20, less than the total divided by 2^40 is lost. The sum is taken with the
+/// rounding errors kept, so that it is good far past what is asked.
+#[test]
+fn hardly_any_length_is_lost() {
+    let mut rng = Case::Solve.rng(8, 0);
+    let mut worst = 0.0_f64;
+    for _ in 0..300_000 {
+        let count = rng.between(1, 16) as usize;
+        let spread = |rng: &mut Rng| 2.0_f64.powf(rng.unit() * 40.0 - 20.0);
+        let shares: Vec<f64> = (0..count).map(|_| spread(&mut rng)).collect();
+        let minima: Vec<f64> =
+            (0..count).map(|_| if rng.once_in(2) { 0.0 } else { spread(&mut rng) }).collect();
+        let total = spread(&mut rng);
+        let lengths = Original.solve(total, &Reals::of(&shares), &Reals::of(&minima)).lengths;
+        worst = worst.max(lost(total, &lengths).abs() / total);
+    }
+    println!("worst loss: {:.1} units of 2^-53 of the total", worst * 2.0_f64.powi(53));
+    assert!(worst < 2.0_f64.powi(-40));
+}
+
+/// The total less the lengths, each rounding error added back at the end.
+fn lost(total: f64, lengths: &[f64]) -> f64 {
+    let (mut rest, mut errors) = (total, 0.0);
+    for length in lengths {
+        let next = rest - length;
+        let back = next - rest;
+        errors += (rest - (next - back)) - (length + back);
+        rest = next;
+    }
+    rest + errors
 }

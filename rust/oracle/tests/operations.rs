@@ -4,7 +4,11 @@
 mod common;
 
 use common::*;
-use oracle::original::bare_apply;
+use oracle::check::Kind as Case;
+use oracle::engine::Engine;
+use oracle::generate::operations::operation;
+use oracle::generate::trees::sound_tree;
+use oracle::original::{Original, bare_apply};
 use oracle::value::{DockTarget, Kind, LayoutInput, Rect, Slot, TileOp, TileTree, same_tree_bits};
 
 /// The number that both answer; a refusal hands back the tree as given.
@@ -305,4 +309,35 @@ fn removal_from_a_group_moves_the_active_index() {
     active_after(1, 11, 0);
     active_after(2, 11, 1);
     active_after(1, 12, 1);
+}
+
+/// Split pane meets 3 only at the insertion: always in a parent of 16 places.
+#[test]
+fn split_pane_is_too_wide_only_at_the_insertion() {
+    let mut met = 0;
+    for case in 0..20_000 {
+        let mut rng = Case::Operations.rng(10, case);
+        let tree = sound_tree(&mut rng);
+        let op = operation(&mut rng, &tree);
+        let TileOp::SplitPane { pane, axis, .. } = op else { continue };
+        if number(&Original.apply(&tree, &op)) == 3 {
+            let holder = tile_of(&tree, pane);
+            let parent = tree
+                .slots
+                .iter()
+                .find(|slot| slot.kind == Kind::Split(axis) && children(slot).contains(&holder));
+            assert_eq!(parent.map(|slot| slot.children.len), Some(16), "case {case}");
+            met += 1;
+        }
+    }
+    assert!(met > 0);
+}
+
+fn tile_of(tree: &TileTree, pane: u64) -> u64 {
+    let holds = |slot: &Slot| match slot.kind {
+        Kind::Pane(other) => other == pane,
+        Kind::Tabs(_) => slot.panes.entries().contains(&pane),
+        _ => false,
+    };
+    tree.slots.iter().position(holds).expect("the pane is there") as u64
 }
