@@ -7,6 +7,7 @@
 //! operations has 20). --case runs one case only. --left and --right name the
 //! implementations, by default the original and the model.
 
+use std::panic::{AssertUnwindSafe, catch_unwind};
 use std::process::ExitCode;
 use std::time::Instant;
 
@@ -83,9 +84,20 @@ fn run(kind: Kind, request: &mut Request) -> bool {
     let started = Instant::now();
     let count = (cases.end - cases.start) * kind.answers();
     for case in cases {
-        if let Err(input) = compare(kind, request.seed, case, left, right) {
-            show(kind, request.seed, case, *input, left, right);
-            return false;
+        // An implementation may also stop by a panic: its own, or one of the
+        // assertions around the original. The case must be named then as well.
+        let one = AssertUnwindSafe(|| compare(kind, request.seed, case, left, right));
+        match catch_unwind(one) {
+            Ok(Ok(())) => {}
+            Ok(Err(input)) => {
+                show_command(kind, request.seed, case, "differs", left, right);
+                show(*input, left, right);
+                return false;
+            }
+            Err(_) => {
+                show_command(kind, request.seed, case, "panics", left, right);
+                return false;
+            }
         }
     }
     let seconds = started.elapsed().as_secs_f64();
@@ -100,17 +112,16 @@ fn run(kind: Kind, request: &mut Request) -> bool {
     true
 }
 
-/// The difference as it was found, the command that makes it again, and the
-/// same difference on the smallest input that still shows it.
-fn show(
+/// Where it happened, and the command that makes it again.
+fn show_command(
     kind: Kind,
     seed: u64,
     case: u64,
-    input: Input,
-    left: &mut dyn Engine,
-    right: &mut dyn Engine,
+    what: &str,
+    left: &dyn Engine,
+    right: &dyn Engine,
 ) {
-    println!("{} differs at case {case} of seed {seed}", kind.name());
+    println!("{} {what} at case {case} of seed {seed}", kind.name());
     println!("--- to see it again, from the folder rust:");
     println!(
         "cargo run --release -q --bin compare -- --kind {} --seed {seed} --case {case} \
@@ -119,6 +130,10 @@ fn show(
         left.name(),
         right.name()
     );
+}
+
+/// The difference as it was found, and on the smallest input that still shows it.
+fn show(input: Input, left: &mut dyn Engine, right: &mut dyn Engine) {
     println!("--- input as found\n{}", shown_input(&input));
     let input = shrunk(input, left, right);
     println!("--- input made smaller\n{}", shown_input(&input));
