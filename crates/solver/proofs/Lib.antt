@@ -3,4 +3,4 @@ pub mod Loops
 pub mod Filling
 pub mod Branches
 pub mod Runs
--- pub mod Solves
+pub mod Solves

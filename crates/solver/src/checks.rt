@@ -1,6 +1,5 @@
 // The tests of the public call: the Rust's three `debug_assert!`s, with document 01's limit of 16.
 use rules::model::Reals;
-
 ghost use mathlib.Core.Path.{_≡_};
 ghost use Prim.Native.Nat.{_≤_};
 ghost use lib.ListN.{take};

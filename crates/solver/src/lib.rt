@@ -11,7 +11,6 @@ use rules::refusal::Answer;
 use rules::refusal::Refusal;
 use rules::solver::Kid;
 use rules::solver::Solution;
-
 ghost use mathlib.Core.Path.{_≡_};
 ghost use mathlib.Core.Bool.{false};
 ghost use Prim.Native.Nat.{_≤_, _<_};
@@ -75,7 +74,7 @@ pub fn solve_lengths_with_min(total: f64, shares: Reals, minima: Reals) -> Solve
     let n = shares.len;
     let none = [0.0; 16];
     if n == 0 {
-        return still(none, 0);
+        return still(none, n);
     }
     if total == 0.0 {
         return still(none, n);

@@ -1,43 +1,54 @@
+-- `checks::input_ok` meets its contract, test by test. Assumes nothing.
+use mathlib.Core.Path.{_≡_, sym, ap, _∙_}
+use Prim.Native.Nat.{ℕ}
 use borrow.Author.Needs.{needs}
+use lib.ListN.{take}
+use Rattle.rules.specs.Numbers.{minimumOk}
+use Rattle.rules.specs.Lists.{allOf}
+use Rattle.rules.specs.Tree.{reals}
+use Rattle.solver.proofs.Solves.{ok-wide, ok-unequal, ok-total, ok-shares, ok-minima}
 use Rattle.solver.proofs.checks.input_ok.Statement.{statement}
 use Rattle.solver.proofs.checks.input_ok.Tie as tie
-use Rattle.solver.proofs.checks.input_ok.Reads as reads
-use Rattle.solver.proofs.checks.input_ok.Lts as lts
-use Rattle.number.proofs.minimum_ok.Reads as minimum-ok-reads
-use Rattle.solver.proofs.checks.minima_ok.Reads as minima-ok-reads
-use Rattle.solver.proofs.checks.shares_ok.Reads as shares-ok-reads
 
--- src/checks.rt:48:9
 returns : tie.Need-returns
-returns c = ?
+returns c =
+    let s = c .before in
+    let a = s .args in
+    ok-wide (a .shares .len) (a .minima .len) (a .total) (reals (a .shares)) (reals (a .minima)) (c .if1 .taken)
 
--- src/checks.rt:51:9
 returns-2 : tie.Need-returns-2
-returns-2 c = ?
+returns-2 c =
+    let s = c .before .before .before in
+    let a = s .args in
+    ok-unequal (a .shares .len) (a .minima .len) (a .total) (reals (a .shares)) (reals (a .minima)) (c .before .before .if1 .left) (c .if2 .taken)
 
--- src/checks.rt:53:9
 minimum-ok-requires : tie.Need-minimum-ok-requires
 minimum-ok-requires c κs = search needs
 
--- src/checks.rt:54:9
 returns-3 : tie.Need-returns-3
-returns-3 c = ?
+returns-3 c =
+    let s = c .before .before .before .before .before in
+    let a = s .args in
+    ok-total (a .shares .len) (a .minima .len) (a .total) (reals (a .shares)) (reals (a .minima)) (c .before .before .before .before .if1 .left) (c .before .before .if2 .left) (c .before .minimum-ok .result) (c .before .minimum-ok .ensures) (c .if3 .taken)
 
--- src/checks.rt:57:9
 shares-ok-requires : tie.Need-shares-ok-requires
 shares-ok-requires c κs = search needs
 
--- src/checks.rt:58:9
 returns-4 : tie.Need-returns-4
-returns-4 c = ?
+returns-4 c =
+    let s = c .before .before .before .before .before .before .before .before in
+    let a = s .args in
+    ok-shares (a .shares .len) (a .minima .len) (a .total) (reals (a .shares)) (reals (a .minima)) (c .before .before .before .before .before .before .before .if1 .left) (c .before .before .before .before .before .if2 .left) (c .before .before .before .before .minimum-ok .result) (c .before .before .before .before .minimum-ok .ensures) (c .before .before .before .if3 .left) (c .before .shares-ok .result) (c .before .shares-ok .ensures) (c .if4 .taken)
 
--- src/checks.rt:61:5
 minima-ok-requires : tie.Need-minima-ok-requires
 minima-ok-requires c κs = search needs
 
--- src/checks.rt:43:1
 returns-5 : tie.Need-returns-5
-returns-5 c = ?
+returns-5 c =
+    let s = c .before .before .before .before .before .before .before .before .before .before in
+    let a = s .args in
+    let e : a .minima .len ≡ a .shares .len = c .before .before .before .before .before .before .before .if2 .left in
+    ok-minima (a .shares .len) (a .minima .len) (a .total) (reals (a .shares)) (reals (a .minima)) (c .before .before .before .before .before .before .before .before .before .if1 .left) e (c .before .before .before .before .before .before .minimum-ok .result) (c .before .before .before .before .before .before .minimum-ok .ensures) (c .before .before .before .before .before .if3 .left) (c .before .before .before .shares-ok .result) (c .before .before .before .shares-ok .ensures) (c .before .before .if4 .left) (c .minima-ok .result) (c .minima-ok .ensures ∙ ap (λ (k : ℕ). allOf minimumOk (take k (a .minima .at))) (sym e))
 
 pub input-ok-spec : {M : Type 1} → statement M
 input-ok-spec =

@@ -1,75 +1,83 @@
+-- `passes::run` meets its contract: the invariant says what is left to run. Assumes nothing.
+use mathlib.Core.Path.{_≡_, refl}
+use Prim.Native.Nat.{_+_, _≤_}
+use native.Mathlib.Omega.{arith}
+use borrow.Author.Needs.{needs}
+use lib.ListN.{take}
+use lib.Ieee.{ofBits}
+use Rattle.rules.specs.Solver.{run}
+use Rattle.solver.proofs.Runs.{Left, stop-none, stop-flex, go-on, run-out}
 use Rattle.solver.proofs.passes.run.Statement.{statement}
 use Rattle.solver.proofs.passes.run.Tie as tie
-use Rattle.solver.proofs.passes.run.Reads as reads
-use Rattle.solver.proofs.passes.run.Lts as lts
-use Rattle.number.proofs.larger.Reads as larger-reads
-use Rattle.solver.proofs.kids.any_short.Reads as any-short-reads
-use Rattle.solver.proofs.kids.pin_all.Reads as pin-all-reads
-use Rattle.solver.proofs.kids.spread_all.Reads as spread-all-reads
-use Rattle.solver.proofs.sums.fixed_total.Reads as fixed-total-reads
-use Rattle.solver.proofs.sums.flexible_share_total.Reads as flexible-share-total-reads
 
 abbrev Inv-loop : tie.InvT-loop
-Inv-loop total n ks₀ passes₀ left₀ ks passes left = ?
+Inv-loop total n ks₀ passes₀ left₀ ks passes left = (passes + left ≡ n) × Left total (run n total 0 (take n ks₀)) left passes (take n ks)
 
 abbrev μ-loop : tie.MeasureT-loop
-μ-loop total n ks₀ passes₀ left₀ ks passes left = ?
+μ-loop total n ks₀ passes₀ left₀ ks passes left = left
 
--- src/passes.rt:26:5
 loop-holds : tie.Need-loop-holds Inv-loop μ-loop
-loop-holds c = ?
+loop-holds c = (omega arith, record { begins = c .pre .1; so-far = refl })
 
--- src/passes.rt:27:13
 any-short-requires : tie.Need-any-short-requires Inv-loop μ-loop
-any-short-requires c κs = ?
+any-short-requires c κs = search needs
 
--- src/passes.rt:28:13
 pin-all-requires : tie.Need-pin-all-requires Inv-loop μ-loop
-pin-all-requires c κs = ?
+pin-all-requires c κs = search needs
 
--- src/passes.rt:29:9
 add-passes : tie.Need-add-passes Inv-loop μ-loop
-add-passes c = ?
+add-passes c = search needs
 
--- src/passes.rt:31:13
 returns : tie.Need-returns Inv-loop μ-loop
-returns c = ?
+returns c =
+    let w = c .before in
+    let b = w .before .before .before in
+    let a = b .before .args in
+    let R = run (a .n) (a .total) 0 (take (a .n) (a .kids)) in
+    stop-none (b .loop .left) (a .total) (b .loop .passes) (take (a .n) (b .loop .ks)) (take (a .n) (w .pin-all .result)) R (w .before .before .loop-test .taken) (b .loop .inv .1) (w .before .any-short .result) (w .before .any-short .ensures) (w .pin-all .ensures) (c .if1 .taken)
 
--- src/passes.rt:36:13
 flexible-share-total-requires : tie.Need-flexible-share-total-requires Inv-loop μ-loop
-flexible-share-total-requires c κs = ?
+flexible-share-total-requires c κs = search needs
 
--- src/passes.rt:38:13
 returns-2 : tie.Need-returns-2 Inv-loop μ-loop
-returns-2 c = ?
+unfolding ofBits
+returns-2 c =
+    let w = c .before .before .before in
+    let b = w .before .before .before in
+    let a = b .before .args in
+    let R = run (a .n) (a .total) 0 (take (a .n) (a .kids)) in
+    stop-flex (b .loop .left) (a .total) (b .loop .passes) (take (a .n) (b .loop .ks)) (take (a .n) (w .pin-all .result)) R (w .before .before .loop-test .taken) (b .loop .inv .1) (w .before .any-short .result) (w .before .any-short .ensures) (w .pin-all .ensures) (c .before .flexible-share-total .result) (c .before .flexible-share-total .ensures) (c .if2 .taken)
 
--- src/passes.rt:43:43
 fixed-total-requires : tie.Need-fixed-total-requires Inv-loop μ-loop
-fixed-total-requires c κs = ?
+fixed-total-requires c κs = search needs
 
--- src/passes.rt:43:13
 larger-requires : tie.Need-larger-requires Inv-loop μ-loop
-larger-requires c κs = ?
+larger-requires c κs = search needs
 
--- src/passes.rt:44:13
 spread-all-requires : tie.Need-spread-all-requires Inv-loop μ-loop
-spread-all-requires c κs = ?
+spread-all-requires c κs = search needs
 
--- src/passes.rt:46:9
 sub-left : tie.Need-sub-left Inv-loop μ-loop
-sub-left c = ?
+sub-left c = search needs
 
--- src/passes.rt:26:5
 loop-less : tie.Need-loop-less Inv-loop μ-loop
-loop-less c = ?
+loop-less c = search needs
 
--- src/passes.rt:26:5
 loop-again : tie.Need-loop-again Inv-loop μ-loop
-loop-again c = ?
+unfolding ofBits
+loop-again c =
+    let x = c .before .before .before in
+    let w = x .before .before .before in
+    let b = w .before .before .before in
+    let a = b .before .args in
+    let R = run (a .n) (a .total) 0 (take (a .n) (a .kids)) in
+    (omega arith, go-on (b .loop .left) (a .total) (b .loop .passes) (take (a .n) (b .loop .ks)) (take (a .n) (w .pin-all .result)) R (w .before .before .loop-test .taken) (b .loop .inv .1) (w .before .any-short .result) (w .before .any-short .ensures) (w .pin-all .ensures) (x .before .flexible-share-total .result) (x .before .flexible-share-total .ensures) (x .before .before .if1 .left) (x .if2 .left) (c .before .before .fixed-total .result) (c .before .larger .result) (take (a .n) (c .spread-all .result)) (c .before .before .fixed-total .ensures) (c .before .larger .ensures) (c .spread-all .ensures))
 
--- src/passes.rt:19:1
 returns-3 : tie.Need-returns-3 Inv-loop μ-loop
-returns-3 c = ?
+returns-3 c =
+    let b = c .before in
+    let a = b .before .args in
+    run-out (a .total) (run (a .n) (a .total) 0 (take (a .n) (a .kids))) (b .loop .left) (b .loop .passes) (take (a .n) (b .loop .ks)) (omega arith) (b .loop .inv .1)
 
 pub run-spec : {M : Type 1} → statement M
 run-spec =
