@@ -8,7 +8,7 @@ ghost use Rattle.rules.specs.Lists.{allOf};
 ghost use Rattle.rules.specs.Tree.{reals};
 ghost use Rattle.rules.specs.Solver.{solverOk};
 
-// Lines 129 to 132: every share finite and positive.
+// The Rust's `shares.iter().all(..)`: every share finite and positive.
 pub fn shares_ok(xs: [f64; 16], n: usize) -> bool
     requires { ⌜ n ≤ 16 ⌝ }
     ensures { λ r. ⌜ r ≡ allOf shareOk (take n xs) ⌝ }
@@ -23,7 +23,7 @@ pub fn shares_ok(xs: [f64; 16], n: usize) -> bool
     true
 }
 
-// Lines 106 to 112: every minimum finite and not negative.
+// The Rust's `min_major.iter().all(..)`: every minimum finite and not negative.
 pub fn minima_ok(xs: [f64; 16], n: usize) -> bool
     requires { ⌜ n ≤ 16 ⌝ }
     ensures { λ r. ⌜ r ≡ allOf minimumOk (take n xs) ⌝ }
@@ -38,7 +38,7 @@ pub fn minima_ok(xs: [f64; 16], n: usize) -> bool
     true
 }
 
-// Lines 102 to 112 and 129 to 132: all of a solver's input. Lengths are tested first, so that nothing past them is read.
+// All of a solver's input, as document 01 limits it. Lengths are tested first, so that nothing past them is read.
 pub fn input_ok(total: f64, shares: Reals, minima: Reals) -> bool
     ensures { λ r. ⌜ r ≡ solverOk (shares .len) (minima .len) total (reals shares) (reals minima) ⌝ }
 {

@@ -7,7 +7,7 @@ ghost use mathlib.Core.List.{map};
 ghost use Rattle.rules.specs.Solver as Rules;
 ghost use Rattle.solver.specs.Call.{Padded};
 
-// Lines 146 to 155 for one child: fixed at its minimum where it is below it.
+// The body of the Rust's first inner loop, as far as it changes a child: fixed at its minimum where it is below it.
 pub fn pin(k: Kid) -> Kid
     ensures { λ r. ⌜ r ≡ Rules.pin k ⌝ }
 {
@@ -25,7 +25,7 @@ pub fn pin(k: Kid) -> Kid
     k
 }
 
-// Lines 165 to 167 for one child: a flexible one's part of what remains.
+// The body of the Rust's second inner loop: a flexible child's part of what remains.
 pub fn spread(k: Kid, room: f64, flex: f64) -> Kid
     ensures { λ r. ⌜ r ≡ Rules.spread room flex k ⌝ }
 {
@@ -40,7 +40,7 @@ pub fn spread(k: Kid, room: f64, flex: f64) -> Kid
     }
 }
 
-// The Rust's inner loop, as far as it changes the children.
+// The Rust's first inner loop, as far as it changes the children. Its two sums are in sums.rt, over what this makes.
 pub fn pin_all(kids: [Kid; 16], n: usize) -> [Kid; 16]
     requires { ⌜ n ≤ 16 ⌝ }
     ensures { λ r. ⌜ take n r ≡ map Rules.pin (take n kids) ⌝ }
@@ -55,7 +55,7 @@ pub fn pin_all(kids: [Kid; 16], n: usize) -> [Kid; 16]
     ks
 }
 
-// The Rust's loop that gives each flexible child its part.
+// The Rust's second inner loop.
 pub fn spread_all(kids: [Kid; 16], n: usize, room: f64, flex: f64) -> [Kid; 16]
     requires { ⌜ n ≤ 16 ⌝ }
     ensures { λ r. ⌜ take n r ≡ map (Rules.spread room flex) (take n kids) ⌝ }
@@ -88,7 +88,7 @@ pub fn any_short(kids: [Kid; 16], n: usize) -> bool
     false
 }
 
-// Lines 134 to 142: each child at its part of the total, none of them fixed.
+// The Rust's first `lengths`, with `fixed` all false: each child at its part of the total.
 pub fn start(total: f64, whole: f64, shares: [f64; 16], minima: [f64; 16], n: usize) -> [Kid; 16]
     requires { ⌜ n ≤ 16 ⌝ }
     ensures { λ r. ⌜ take n r ≡ Rules.start total whole (take n shares) (take n minima) ⌝ }
@@ -114,7 +114,7 @@ pub fn start(total: f64, whole: f64, shares: [f64; 16], minima: [f64; 16], n: us
     ks
 }
 
-// The children's lengths: the Rust's `lengths`.
+// The Rust's `lengths` as they are handed back.
 pub fn sizes(kids: [Kid; 16], n: usize) -> [f64; 16]
     requires { ⌜ n ≤ 16 ⌝ }
     ensures { λ r. ⌜ Padded n (Rules.sizes (take n kids)) r ⌝ }

@@ -1,4 +1,4 @@
-// The lengths of a split's children: util.rs, 97 to 167 (`solve_lengths_with_min`), with the count of its passes, and the public call over it.
+// The lengths of a split's children: util.rs's `solve_lengths_with_min`, with the count of its passes, and the public call over it.
 // The rule is rules::specs::Solver; what is proved of it stands in specs/.
 mod checks;
 mod fills;
@@ -21,13 +21,13 @@ ghost use Rattle.rules.specs.Solver as Rules;
 ghost use Rattle.solver.specs.Loop.{allFixed};
 ghost use Rattle.solver.specs.Call.{Clear, Padded, viewSolved, badInput};
 
-// The lengths, and how often the outer loop ran.
+// The Rust's `Vec<f64>` of lengths, and how often the outer loop ran.
 pub struct Solved {
     pub lengths: Reals,
     pub passes: u64,
 }
 
-// Lengths that no loop made.
+// Lengths that no loop made: the Rust's early returns.
 fn still(at: [f64; 16], n: usize) -> Solved
     ensures { λ r. ⌜ (r .lengths .at ≡ at) × (r .lengths .len ≡ n) × (r .passes ≡ 0) ⌝ }
 {
@@ -35,7 +35,7 @@ fn still(at: [f64; 16], n: usize) -> Solved
     Solved { lengths, passes: 0 }
 }
 
-// Lines 118 to 126: the minima take all. Parts by the minima; equal parts where they are all zero.
+// The Rust's case `min_total >= total`: parts by the minima; equal parts where they are all zero.
 fn tight(total: f64, least: f64, minima: [f64; 16], n: usize) -> [f64; 16]
     requires { ⌜ n ≤ 16 ⌝ }
     ensures { λ r. ⌜ Padded n (Rules.tight total least (take n minima)) r ⌝ }
@@ -47,7 +47,7 @@ fn tight(total: f64, least: f64, minima: [f64; 16], n: usize) -> [f64; 16]
     fills::even(n, even)
 }
 
-// Lines 138 to 164: the lengths by the shares, and the outer loop where some minimum is above zero.
+// The rest of the Rust's function, from `if min_total <= 0.0` on: the lengths by the shares, or what the outer loop makes of them.
 fn loose(total: f64, least: f64, kids: [Kid; 16], n: usize) -> Solved
     requires { ⌜ (n ≤ 16) × (allFixed (take n kids) ≡ false) ⌝ }
     ensures { λ r. ⌜ (viewSolved r ≡ Rules.loose total least (take n kids)) × (r .lengths .len ≡ n) × Clear (r .lengths) ⌝ }

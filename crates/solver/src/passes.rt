@@ -13,7 +13,7 @@ pub struct Ran {
     pub passes: u64,
 }
 
-// The Rust's `loop`, lines 139 to 168. Every run but the last fixes one child more, so that n runs are enough: `left` only shows that it ends.
+// The Rust's `loop`. Every run but the last fixes one child more, so that n runs are enough: `left` only shows that it ends.
 // Each run is counted: specs/Loop.antt shows that none begins with every child fixed.
 pub fn run(total: f64, kids: [Kid; 16], n: usize) -> Ran
     requires { ⌜ (n ≤ 16) × (allFixed (take n kids) ≡ false) ⌝ }

@@ -1,4 +1,4 @@
--- `passes::run` meets its contract: the invariant says what is left to run. Assumes nothing.
+-- `passes::run` meets its contract: the invariant says what is left to run, and that the count stays small. Assumes nothing.
 use mathlib.Core.Path.{_≡_, refl}
 use Prim.Native.Nat.{_+_, _≤_}
 use native.Mathlib.Omega.{arith}
@@ -11,7 +11,7 @@ use Rattle.solver.proofs.passes.run.Statement.{statement}
 use Rattle.solver.proofs.passes.run.Tie as tie
 
 abbrev Inv-loop : tie.InvT-loop
-Inv-loop total n ks₀ passes₀ left₀ ks passes left = (passes + left ≡ n) × Left total (run n total 0 (take n ks₀)) left passes (take n ks)
+Inv-loop total n ks₀ passes₀ left₀ ks passes left = (passes + left ≤ 32) × Left total (run n total 0 (take n ks₀)) left passes (take n ks)
 
 abbrev μ-loop : tie.MeasureT-loop
 μ-loop total n ks₀ passes₀ left₀ ks passes left = left
