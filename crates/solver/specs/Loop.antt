@@ -181,3 +181,13 @@ start-length total w (s ∷ ss) (m ∷ ms) e = ap suc (start-length total w ss m
 
 pub start-begins : (total w : Float) (ss ms : List Float) → 0 < length ms → length ss ≡ length ms → allFixed (start total w ss ms) ≡ false
 start-begins total w ss ms h e = free-some (start total w ss ms) (omega (arith, start-free total w ss ms, start-length total w ss ms e))
+
+-- both for the loop of the rule: it is counted run by run, and its fuel, a run for each child, is as good as any more
+pub loop-counted : (total w : Float) (ss ms : List Float) → 0 < length ms → length ss ≡ length ms → Runs total 0 (start total w ss ms) (run (length (start total w ss ms)) total 0 (start total w ss ms))
+loop-counted total w ss ms h e = run-runs (length (start total w ss ms)) total 0 (start total w ss ms) (start-begins total w ss ms h e) (omega (arith, start-free total w ss ms))
+
+pub loop-not-cut : (total w : Float) (ss ms : List Float) → 0 < length ms → length ss ≡ length ms → (lots : ℕ) → length (start total w ss ms) ≤ lots
+    → run (length (start total w ss ms)) total 0 (start total w ss ms) ≡ run lots total 0 (start total w ss ms)
+loop-not-cut total w ss ms h e lots k =
+    let f = start-free total w ss ms in
+    fuel-enough (length (start total w ss ms)) lots total 0 (start total w ss ms) (start-begins total w ss ms h e) (omega arith) (omega arith)

@@ -102,10 +102,12 @@ pub fn start(total: f64, whole: f64, shares: [f64; 16], minima: [f64; 16], n: us
     let mut ks = [z; 16];
     let mut i = 0usize;
     while i < n {
+        let s = shares[i];
+        let m = minima[i];
         let k = Kid {
-            share: shares[i],
-            minimum: minima[i],
-            size: total * (shares[i] / whole),
+            share: s,
+            minimum: m,
+            size: total * (s / whole),
             fixed: false,
         };
         ks[i] = k;

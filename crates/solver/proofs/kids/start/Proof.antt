@@ -22,23 +22,17 @@ loop-holds c =
     let a = c .args in
     (omega arith, refl, filled-start (λ (j : ℕ). start (a .total) (a .whole) (take j (a .t3)) (take j (a .t4))) _ (start-none (a .total) (a .whole) (a .t3) (a .t4)))
 
-mul-t13 : tie.Need-mul-t13 Inv-loop μ-loop
-mul-t13 c = search needs
+mul-s : tie.Need-mul-s Inv-loop μ-loop
+mul-s c = search needs
 
-array-read-t16 : tie.Need-array-read-t16 Inv-loop μ-loop
-array-read-t16 c = search needs
+array-read-s : tie.Need-array-read-s Inv-loop μ-loop
+array-read-s c = search needs
 
-mul-t17 : tie.Need-mul-t17 Inv-loop μ-loop
-mul-t17 c = search needs
+mul-m : tie.Need-mul-m Inv-loop μ-loop
+mul-m c = search needs
 
-array-read-t20 : tie.Need-array-read-t20 Inv-loop μ-loop
-array-read-t20 c = search needs
-
-mul-t21 : tie.Need-mul-t21 Inv-loop μ-loop
-mul-t21 c = search needs
-
-array-read-t24 : tie.Need-array-read-t24 Inv-loop μ-loop
-array-read-t24 c = search needs
+array-read-m : tie.Need-array-read-m Inv-loop μ-loop
+array-read-m c = search needs
 
 mul-ks : tie.Need-mul-ks Inv-loop μ-loop
 mul-ks c = search needs
@@ -74,12 +68,10 @@ start-spec =
     Inv-loop
     μ-loop
     loop-holds
-    mul-t13
-    array-read-t16
-    mul-t17
-    array-read-t20
-    mul-t21
-    array-read-t24
+    mul-s
+    array-read-s
+    mul-m
+    array-read-m
     mul-ks
     array-set-from-ks
     add-i
