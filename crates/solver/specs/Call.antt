@@ -22,6 +22,7 @@ use Rattle.rules.specs.declared.refusal.Answer.the-variants.{Accepted, Refused}
 use Rattle.rules.specs.declared.refusal.Refusal.the-variants.{BadInput}
 use Rattle.number.specs.Each.{All, none, more, all-take}
 use Rattle.number.specs.Sums.{Good}
+use Rattle.number.specs.Owned.{Owned}
 use Rattle.number.specs.Checks.{ShareOk, share-good, plus-good}
 use Rattle.solver.specs.Demand.{Input, Meets, solve-meets}
 use Rattle.solver.specs.declared.Solved.{Solved}
@@ -55,11 +56,7 @@ solve-unique a b la lb ca cb e =
     let l : a .lengths ≡ b .lengths = lengths-same (a .lengths) (b .lengths) la lb ca cb (ap (λ (s : Rules.Solved). s .lengths) e) in
     λ i. record { answer = e i .answer; lengths = l i; passes = e i .passes }
 
--- ---- DEMAND 3 OF THE CALL. What owning a Reals tells: 16 places, each a value of the format
-pub record Owned (l : Reals) : Type 0 where
-  pub long : length (l .at) ≡ 16
-  pub fit : All (λ (x : Float). T (fits binary64 x)) (l .at)
-
+-- ---- DEMAND 3 OF THE CALL, for numbers that are an f64's
 shares-good : (xs : List Float) → All (λ (x : Float). T (fits binary64 x)) xs → T (allOf shareOk xs) → All ShareOk xs
 unfolding allOf
 shares-good [] none t = none
