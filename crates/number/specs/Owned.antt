@@ -1,5 +1,5 @@
 -- What owning an array of f64, or a Reals, tells: its length, and that each element is a value of the format. Assumes nothing.
-use mathlib.Core.Path.{_≡_, sym, subst, _∙_}
+use mathlib.Core.Path.{_≡_, sym, subst}
 use mathlib.Core.List.{List, [], _∷_, map}
 use lib.Dec.{T}
 use lib.ListN.{length, length-map}

@@ -12,7 +12,7 @@ use borrow.Author.Tests.{le-leb, lt-leb, eq-eqb, ne-eqb}
 use Rattle.rules.specs.Numbers.{zero-f, whole, plus, minimumOk, shareOk}
 use Rattle.rules.specs.Lists.{allOf}
 use Rattle.rules.specs.Tree.{reals}
-use Rattle.rules.specs.Solver.{sumOf, part, start, ran, run, Run, Lengths, still, sizes, sized, tight, loose, solverOk, solveLengthsWithMin, solveBy, solved}
+use Rattle.rules.specs.Solver.{sumOf, part, start, ran, run, Lengths, still, sizes, sized, tight, loose, solverOk, solveLengthsWithMin, solveBy, solved}
 use Rattle.rules.specs.Solver as Rules
 use Rattle.rules.specs.declared.model.Reals.{Reals}
 use Rattle.rules.specs.declared.solver.Kid.{Kid}

@@ -1,14 +1,14 @@
 -- What the solver's calls hand back: zeros past the length, and how a Solved is read as the rule's lengths. Then the public call: its answer is one, and demand 3 of it.
 -- Assumes nothing.
-use mathlib.Core.Path.{_≡_, refl, sym, ap, _∙_, subst}
+use mathlib.Core.Path.{_≡_, sym, ap, _∙_}
 use mathlib.Core.Bool.{Bool, true, false, _&&_}
 use mathlib.Core.List.{List, [], _∷_, _++_, map}
-use Prim.Native.Nat.{ℕ, _-_, _≤_, _<_}
+use Prim.Native.Nat.{ℕ, _-_, _≤_}
 use native.Mathlib.Omega.{arith}
 use lib.Dec.{T, eqb, leb, leb→le, eqb→eq}
-use lib.ListN.{length, getD, take, drop, replicate, length-map, take-append-drop}
+use lib.ListN.{length, take, drop, replicate, length-map, take-append-drop}
 use lib.Seq.{length-take-le}
-use lib.Ieee.{Float, binary64, fits, lt, le}
+use lib.Ieee.{Float, binary64, fits}
 use lib.Ieee.Fits.{and-l, and-r}
 use lib.Ieee.Scale.{finite}
 use Rattle.rules.specs.Numbers.{zero-f, plus, minimumOk, shareOk}

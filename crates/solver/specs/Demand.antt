@@ -15,7 +15,7 @@ use Rattle.rules.specs.Numbers.{zero-f, whole}
 use Rattle.rules.specs.Solver.{sumBy, sumOf, part, pin, Run, ran, run, start, Lengths, still, sized, tight, loose, solveLengthsWithMin}
 use Rattle.rules.specs.declared.solver.Kid.{Kid}
 use Rattle.number.specs.Each.{All, none, more, all-at, all-map, all-both, all-weak}
-use Rattle.number.specs.Order.{nonneg, le-self, le-chain, lt-le, le-anti, eq→le, not-lt→le, not-le→le, lt→not-le}
+use Rattle.number.specs.Order.{le-self, le-chain, lt-le, le-anti, eq→le, not-lt→le, not-le→le, lt→not-le}
 use Rattle.number.specs.Arithmetic.{zero-least}
 use Rattle.number.specs.Sums.{Good, good-zero, sum-good, sum-each}
 use Rattle.number.specs.Checks.{ShareOk}

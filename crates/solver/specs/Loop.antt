@@ -12,7 +12,7 @@ use lib.Ieee.{Float, binary64, add, lt, le}
 use lib.Ieee.Fits.{and-l, and-r}
 use Rattle.rules.specs.Numbers.{zero-f}
 use Rattle.rules.specs.Lists.{allOf}
-use Rattle.rules.specs.Solver.{sumBy, part, resized, short, flexible, pin, spread, anyShort, flexibleShareTotal, again, remaining, respread, tick, Run, ran, run, start}
+use Rattle.rules.specs.Solver.{sumBy, part, resized, short, flexible, pin, spread, anyShort, flexibleShareTotal, again, remaining, respread, Run, ran, run, start}
 use Rattle.rules.specs.declared.solver.Kid.{Kid}
 use Rattle.number.specs.Order.{le-self}
 

@@ -1,6 +1,5 @@
 -- `loose` meets its contract: by its test, the lengths at once or after the loop. Assumes nothing.
 use mathlib.Core.Path.{_≡_, refl}
-use Prim.Native.Nat.{_≤_}
 use native.Mathlib.Omega.{arith}
 use borrow.Author.Needs.{needs}
 use lib.ListN.{length, take}

@@ -1,5 +1,5 @@
 -- `refused` meets its contract, by computation. Assumes nothing.
-use mathlib.Core.Path.{_≡_, refl}
+use mathlib.Core.Path.{refl}
 use borrow.Author.Needs.{needs}
 use lib.Ieee.{ofBits}
 use Rattle.solver.proofs.refused.Statement.{statement}

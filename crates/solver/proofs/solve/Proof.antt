@@ -1,14 +1,10 @@
 -- `solve` meets its contract: refused where the input is bad, and else the lengths of the input read with minus zero as zero. Assumes nothing.
-use mathlib.Core.Path.{_≡_, sym, ap, _∙_}
-use mathlib.Core.Bool.{true, false}
-use mathlib.Core.List.{List}
-use Prim.Native.Nat.{_≤_}
+use mathlib.Core.Path.{_≡_, sym, _∙_}
+use mathlib.Core.Bool.{true}
 use native.Mathlib.Omega.{arith}
 use borrow.Author.Needs.{needs}
-use lib.ListN.{take}
-use lib.Ieee.{Float}
 use Rattle.rules.specs.Tree.{reals}
-use Rattle.rules.specs.Solver.{solveLengthsWithMin, solverOk, solved}
+use Rattle.rules.specs.Solver.{solveLengthsWithMin, solverOk}
 use Rattle.solver.specs.Call.{viewSolved}
 use Rattle.solver.proofs.Branches.{not-true, not-false}
 use Rattle.solver.proofs.Solves.{ok-few, solve-refused, solve-accepted}

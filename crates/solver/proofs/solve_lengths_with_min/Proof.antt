@@ -1,14 +1,14 @@
 -- `solve_lengths_with_min` meets its contract, test by test. Assumes nothing.
-use mathlib.Core.Path.{_≡_, refl, sym, ap, _∙_, subst}
-use mathlib.Core.List.{List, [], map}
-use Prim.Native.Nat.{ℕ, _≤_, _<_}
+use mathlib.Core.Path.{_≡_, sym, ap, _∙_, subst}
+use mathlib.Core.List.{[]}
+use Prim.Native.Nat.{ℕ, _<_}
 use native.Mathlib.Omega.{arith}
 use borrow.Author.Needs.{needs}
 use lib.ListN.{length, take, replicate}
 use lib.Seq.{length-take-le}
-use lib.Ieee.{Float, ofBits}
+use lib.Ieee.{ofBits}
 use Rattle.rules.specs.Numbers.{zero-f}
-use Rattle.number.specs.Owned.{Owned, reals-owned}
+use Rattle.number.specs.Owned.{reals-owned}
 use Rattle.rules.specs.Tree.{reals}
 use Rattle.rules.specs.Solver.{still, tight, solveLengthsWithMin}
 use Rattle.solver.specs.Loop.{allFixed, start-begins}

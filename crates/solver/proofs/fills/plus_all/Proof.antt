@@ -1,10 +1,10 @@
 -- `fills::plus_all` meets its contract: the first i are read with minus zero as zero, and the rest zeros. Assumes nothing.
 use mathlib.Core.Path.{_≡_, refl, sym, ap, _∙_}
-use mathlib.Core.List.{List, [], _∷_, _++_, map}
+use mathlib.Core.List.{[], _∷_, _++_, map}
 use Prim.Native.Nat.{ℕ, _+_, _-_, _≤_, _<_}
 use native.Mathlib.Omega.{arith}
 use borrow.Author.Needs.{needs}
-use lib.ListN.{length, getD, take}
+use lib.ListN.{length, take}
 use lib.Ieee.{Float, nan, ofBits}
 use Rattle.rules.specs.Numbers.{plus}
 use Rattle.solver.proofs.Filling.{Filled, filled-start, filled-step, padded-end, zeros, zeros-long, map-more}

@@ -1,5 +1,5 @@
 -- `kids::sizes` meets its contract: the first i are the lengths of the first i children, and the rest zeros. Assumes nothing.
-use mathlib.Core.Path.{_≡_, refl}
+use mathlib.Core.Path.{refl}
 use mathlib.Core.List.{map}
 use Prim.Native.Nat.{ℕ, _-_, _≤_, _<_}
 use native.Mathlib.Omega.{arith}

@@ -3,10 +3,9 @@ use mathlib.Core.Path.{_≡_, refl}
 use Prim.Native.Nat.{ℕ, _-_, _≤_, _<_}
 use native.Mathlib.Omega.{arith}
 use borrow.Author.Needs.{needs}
-use lib.ListN.{length, getD, take, replicate}
+use lib.ListN.{length, getD, take}
 use lib.Ieee.{nan}
 use Rattle.rules.specs.Solver.{start}
-use Rattle.rules.specs.declared.solver.Kid.{Kid}
 use Rattle.solver.proofs.Filling.{Filled, filled-start, filled-step, filled-end, fresh, start-none, start-more}
 use Rattle.solver.proofs.kids.start.Statement.{statement}
 use Rattle.solver.proofs.kids.start.Tie as tie

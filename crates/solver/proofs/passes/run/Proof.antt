@@ -1,5 +1,5 @@
 -- `passes::run` meets its contract: the invariant says what is left to run, and that the count stays small. Assumes nothing.
-use mathlib.Core.Path.{_≡_, refl}
+use mathlib.Core.Path.{refl}
 use Prim.Native.Nat.{_+_, _≤_}
 use native.Mathlib.Omega.{arith}
 use borrow.Author.Needs.{needs}

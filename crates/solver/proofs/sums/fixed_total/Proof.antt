@@ -1,12 +1,12 @@
 -- `sums::fixed_total` meets its contract: the loop has added the lengths of the fixed ones among the first i. Assumes nothing.
-use mathlib.Core.Path.{_≡_, refl}
+use mathlib.Core.Path.{refl}
 use mathlib.Core.Bool.{true, false}
 use mathlib.Core.Logic.{⊎-elim}
 use Prim.Native.Nat.{_-_, _≤_}
 use native.Mathlib.Omega.{arith}
 use borrow.Author.Needs.{needs}
 use lib.ListN.{length}
-use lib.Ieee.{Float, ofBits}
+use lib.Ieee.{ofBits}
 use Rattle.rules.specs.Numbers.{zero-f}
 use Rattle.rules.specs.declared.solver.Kid.{Kid}
 use Rattle.solver.proofs.Loops.{Summed, summed-by, summed-end, kid0}
