@@ -5,10 +5,9 @@ use Prim.Native.Nat.{ℕ, _<_}
 use native.Mathlib.Omega.{arith}
 use borrow.Author.Needs.{needs}
 use lib.ListN.{length, take, replicate}
-use lib.Seq.{length-take-le}
 use lib.Ieee.{ofBits}
 use Rattle.rules.specs.Numbers.{zero-f}
-use Rattle.number.specs.Owned.{reals-owned}
+use Rattle.number.specs.Owned.{reals-taken}
 use Rattle.rules.specs.Tree.{reals}
 use Rattle.rules.specs.Solver.{still, tight, solveLengthsWithMin}
 use Rattle.solver.specs.Loop.{allFixed, start-begins}
@@ -45,8 +44,8 @@ returns-2 c =
     let ms = take n (a .minima .at) in
     let out = solveLengthsWithMin (a .total) ss (reals (a .minima)) in
     let same : solveLengthsWithMin (a .total) ss ms ≡ out = ap (λ (k : ℕ). solveLengthsWithMin (a .total) ss (take k (a .minima .at))) (sym (s .pre .1)) in
-    let ls : length ss ≡ n = length-take-le n (a .shares .at) (omega (arith, reals-owned (a .shares) (s .good .1 .0 .0) (s .good .1 .0 .1 .1) .long, s .pre .0)) in
-    let lm : length ms ≡ n = length-take-le n (a .minima .at) (omega (arith, reals-owned (a .minima) (s .good .1 .1 .0 .0) (s .good .1 .1 .0 .1 .1) .long, s .pre .0)) in
+    let ls : length ss ≡ n = reals-taken (a .shares) n (s .good .1 .0 .0) (s .good .1 .0 .1 .1) (s .pre .0) in
+    let lm : length ms ≡ n = reals-taken (a .minima) n (s .good .1 .1 .0 .0) (s .good .1 .1 .0 .1 .1) (s .pre .0) in
     let some : 0 < length ss = omega (arith, ls, c .before .before .if1 .left) in
     let r = c .still2 .ensures in
     shown (c .still2 .result) zeros (replicate n zero-f) n 0 out (r .0) (r .1) (r .2) (s .pre .0) (padded-zeros n (s .pre .0))
@@ -71,8 +70,8 @@ returns-3 c =
     let ms = take n (a .minima .at) in
     let out = solveLengthsWithMin (a .total) ss (reals (a .minima)) in
     let same : solveLengthsWithMin (a .total) ss ms ≡ out = ap (λ (k : ℕ). solveLengthsWithMin (a .total) ss (take k (a .minima .at))) (sym (s .pre .1)) in
-    let ls : length ss ≡ n = length-take-le n (a .shares .at) (omega (arith, reals-owned (a .shares) (s .good .1 .0 .0) (s .good .1 .0 .1 .1) .long, s .pre .0)) in
-    let lm : length ms ≡ n = length-take-le n (a .minima .at) (omega (arith, reals-owned (a .minima) (s .good .1 .1 .0 .0) (s .good .1 .1 .0 .1 .1) .long, s .pre .0)) in
+    let ls : length ss ≡ n = reals-taken (a .shares) n (s .good .1 .0 .0) (s .good .1 .0 .1 .1) (s .pre .0) in
+    let lm : length ms ≡ n = reals-taken (a .minima) n (s .good .1 .1 .0 .0) (s .good .1 .1 .0 .1 .1) (s .pre .0) in
     let some : 0 < length ss = omega (arith, ls, c .before .before .before .before .before .before .if1 .left) in
     let r = c .still3 .ensures in
     let least = c .before .before .before .sum in
@@ -94,8 +93,8 @@ loose-requires c κs =
     let ms = take n (a .minima .at) in
     let out = solveLengthsWithMin (a .total) ss (reals (a .minima)) in
     let same : solveLengthsWithMin (a .total) ss ms ≡ out = ap (λ (k : ℕ). solveLengthsWithMin (a .total) ss (take k (a .minima .at))) (sym (s .pre .1)) in
-    let ls : length ss ≡ n = length-take-le n (a .shares .at) (omega (arith, reals-owned (a .shares) (s .good .1 .0 .0) (s .good .1 .0 .1 .1) .long, s .pre .0)) in
-    let lm : length ms ≡ n = length-take-le n (a .minima .at) (omega (arith, reals-owned (a .minima) (s .good .1 .1 .0 .0) (s .good .1 .1 .0 .1 .1) .long, s .pre .0)) in
+    let ls : length ss ≡ n = reals-taken (a .shares) n (s .good .1 .0 .0) (s .good .1 .0 .1 .1) (s .pre .0) in
+    let lm : length ms ≡ n = reals-taken (a .minima) n (s .good .1 .1 .0 .0) (s .good .1 .1 .0 .1 .1) (s .pre .0) in
     let some : 0 < length ms = omega (arith, lm, c .before .before .before .before .before .before .before .if1 .left) in
     (s .pre .0, ap allFixed (c .start .ensures) ∙ start-begins (a .total) (c .before .sum2 .result) ss ms some (ls ∙ sym lm))
 
@@ -109,8 +108,8 @@ returns-4 c =
     let ms = take n (a .minima .at) in
     let out = solveLengthsWithMin (a .total) ss (reals (a .minima)) in
     let same : solveLengthsWithMin (a .total) ss ms ≡ out = ap (λ (k : ℕ). solveLengthsWithMin (a .total) ss (take k (a .minima .at))) (sym (s .pre .1)) in
-    let ls : length ss ≡ n = length-take-le n (a .shares .at) (omega (arith, reals-owned (a .shares) (s .good .1 .0 .0) (s .good .1 .0 .1 .1) .long, s .pre .0)) in
-    let lm : length ms ≡ n = length-take-le n (a .minima .at) (omega (arith, reals-owned (a .minima) (s .good .1 .1 .0 .0) (s .good .1 .1 .0 .1 .1) .long, s .pre .0)) in
+    let ls : length ss ≡ n = reals-taken (a .shares) n (s .good .1 .0 .0) (s .good .1 .0 .1 .1) (s .pre .0) in
+    let lm : length ms ≡ n = reals-taken (a .minima) n (s .good .1 .1 .0 .0) (s .good .1 .1 .0 .1 .1) (s .pre .0) in
     let some : 0 < length ss = omega (arith, ls, c .before .before .before .before .before .before .before .before .if1 .left) in
     let r = c .loose .ensures in
     let least = c .before .before .before .before .before .sum in
