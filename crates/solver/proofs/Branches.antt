@@ -3,7 +3,7 @@ use mathlib.Core.Path.{_≡_, refl, sym}
 use mathlib.Core.Bool.{Bool, true, false, not, _&&_, cond}
 use lib.Ieee.{Float, lt}
 use Rattle.rules.specs.Solver.{pin, spread, part, resized, short}
-use Rattle.rules.specs.declared.solver.Kid.{Kid}
+use Rattle.rules.specs.declared.solving.Kid.{Kid}
 
 pub pin-fixed : (k : Kid) → k .fixed ≡ true → k ≡ pin k
 unfolding pin

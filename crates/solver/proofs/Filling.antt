@@ -11,7 +11,7 @@ use lib.Seq.{getD-drop, take-suc, take-suc-set, drop-set-lt, drop-drop, length-t
 use lib.Ieee.{Float}
 use Rattle.rules.specs.Numbers.{zero-f}
 use Rattle.rules.specs.Solver.{part, start}
-use Rattle.rules.specs.declared.solver.Kid.{Kid}
+use Rattle.rules.specs.declared.solving.Kid.{Kid}
 use Rattle.solver.specs.Call.{Padded}
 
 pub record Filled {B : Type 0} (p : ℕ → List B) (out₀ out : List B) (i : ℕ) : Type 0 where

@@ -10,7 +10,7 @@ use lib.Seq.{drop-cons, getD-take, drop-length, length-take-le}
 use lib.Ieee.{Float, nan, binary64, add}
 use Rattle.rules.specs.Lists.{allOf}
 use Rattle.rules.specs.Solver.{sumBy, short, anyShort}
-use Rattle.rules.specs.declared.solver.Kid.{Kid}
+use Rattle.rules.specs.declared.solving.Kid.{Kid}
 
 -- what the code reads past an array's end
 abbrev pub kid0 : Kid

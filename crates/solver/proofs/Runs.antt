@@ -9,7 +9,7 @@ use native.Mathlib.Omega.{arith}
 use lib.Ieee.{Float, binary64, sub, le}
 use Rattle.rules.specs.Numbers.{larger, zero-f}
 use Rattle.rules.specs.Solver.{pin, spread, anyShort, fixedTotal, flexibleShareTotal, again, respread, Run, ran, run}
-use Rattle.rules.specs.declared.solver.Kid.{Kid}
+use Rattle.rules.specs.declared.solving.Kid.{Kid}
 use Rattle.solver.specs.Loop.{allFixed, run-once, next-begins}
 use Rattle.solver.proofs.Branches.{not-true, not-false}
 

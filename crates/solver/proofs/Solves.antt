@@ -15,7 +15,7 @@ use Rattle.rules.specs.Tree.{reals}
 use Rattle.rules.specs.Solver.{sumOf, part, start, ran, run, Lengths, still, sizes, sized, tight, loose, solverOk, solveLengthsWithMin, solveBy, solved}
 use Rattle.rules.specs.Solver as Rules
 use Rattle.rules.specs.declared.model.Reals.{Reals}
-use Rattle.rules.specs.declared.solver.Kid.{Kid}
+use Rattle.rules.specs.declared.solving.Kid.{Kid}
 use Rattle.solver.specs.Demand.{solveSome}
 use Rattle.solver.specs.declared.Solved.{Solved}
 use Rattle.solver.specs.Call.{Padded, Clear, viewSolved, badInput}

@@ -17,7 +17,7 @@ use Rattle.rules.specs.Tree.{reals}
 use Rattle.rules.specs.Solver.{Lengths, solverOk, solveBy, viewSolution}
 use Rattle.rules.specs.Solver as Rules
 use Rattle.rules.specs.declared.model.Reals.{Reals}
-use Rattle.rules.specs.declared.solver.Solution.{Solution}
+use Rattle.rules.specs.declared.solving.Solution.{Solution}
 use Rattle.rules.specs.declared.refusal.Answer.the-variants.{Accepted, Refused}
 use Rattle.rules.specs.declared.refusal.Refusal.the-variants.{BadInput}
 use Rattle.number.specs.Each.{All, none, more, all-take}

@@ -8,7 +8,7 @@ use lib.Ieee.Fits.{mul-fits, sub-fits, cond-fits}
 use lib.Ieee.Scale.{finite}
 use Rattle.rules.specs.Numbers.{zero-f, larger}
 use Rattle.rules.specs.Solver.{part, resized, short, flexible, pin, spread, fixedTotal, flexibleShareTotal, remaining, respread}
-use Rattle.rules.specs.declared.solver.Kid.{Kid}
+use Rattle.rules.specs.declared.solving.Kid.{Kid}
 use Rattle.number.specs.Each.{All, all-map, all-both, all-weak}
 use Rattle.number.specs.Order.{nonneg, le-self, le-chain, not-lt→le, not-le→lt}
 use Rattle.number.specs.Arithmetic.{zero-fits, zero-least, finite-below, div-le-one, mul-le-left, room-le}

@@ -13,7 +13,7 @@ use lib.Ieee.Fits.{mul-fits}
 use lib.Ieee.Scale.{finite}
 use Rattle.rules.specs.Numbers.{zero-f, whole}
 use Rattle.rules.specs.Solver.{sumBy, sumOf, part, pin, Run, ran, run, start, Lengths, still, sized, tight, loose, solveLengthsWithMin}
-use Rattle.rules.specs.declared.solver.Kid.{Kid}
+use Rattle.rules.specs.declared.solving.Kid.{Kid}
 use Rattle.number.specs.Each.{All, none, more, all-at, all-map, all-both, all-weak}
 use Rattle.number.specs.Order.{le-self, le-chain, lt-le, le-anti, eq→le, not-lt→le, not-le→le, lt→not-le}
 use Rattle.number.specs.Arithmetic.{zero-least}

@@ -13,7 +13,7 @@ use lib.Ieee.Fits.{and-l, and-r}
 use Rattle.rules.specs.Numbers.{zero-f}
 use Rattle.rules.specs.Lists.{allOf}
 use Rattle.rules.specs.Solver.{sumBy, part, resized, short, flexible, pin, spread, anyShort, flexibleShareTotal, again, remaining, respread, Run, ran, run, start}
-use Rattle.rules.specs.declared.solver.Kid.{Kid}
+use Rattle.rules.specs.declared.solving.Kid.{Kid}
 use Rattle.number.specs.Order.{le-self}
 
 -- ---- how many are not held: a pass that goes on holds one more

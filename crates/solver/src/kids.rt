@@ -1,5 +1,5 @@
 // The children in the solver's work: each with its share, its minimum, its length so far and whether it is fixed at its minimum.
-use rules::solver::Kid;
+use rules::solving::Kid;
 ghost use mathlib.Core.Path.{_≡_};
 ghost use Prim.Native.Nat.{_≤_};
 ghost use lib.ListN.{take};

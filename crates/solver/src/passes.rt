@@ -1,5 +1,5 @@
 // The outer loop.
-use rules::solver::Kid;
+use rules::solving::Kid;
 ghost use mathlib.Core.Path.{_≡_};
 ghost use Prim.Native.Nat.{_≤_};
 ghost use lib.ListN.{take};

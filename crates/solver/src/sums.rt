@@ -1,5 +1,5 @@
 // Sums over the first n of an array, from left to right, from plus zero.
-use rules::solver::Kid;
+use rules::solving::Kid;
 ghost use mathlib.Core.Path.{_≡_};
 ghost use Prim.Native.Nat.{_≤_};
 ghost use lib.ListN.{take};

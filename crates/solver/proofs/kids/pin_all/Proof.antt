@@ -6,7 +6,7 @@ use native.Mathlib.Omega.{arith}
 use borrow.Author.Needs.{needs}
 use lib.ListN.{length, getD, take}
 use Rattle.rules.specs.Solver.{pin}
-use Rattle.rules.specs.declared.solver.Kid.{Kid}
+use Rattle.rules.specs.declared.solving.Kid.{Kid}
 use Rattle.solver.proofs.Loops.{kid0}
 use Rattle.solver.proofs.Filling.{Filled, filled-start, filled-step, filled-read, filled-end, map-more}
 use Rattle.solver.proofs.kids.pin_all.Statement.{statement}

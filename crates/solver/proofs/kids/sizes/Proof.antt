@@ -6,7 +6,7 @@ use native.Mathlib.Omega.{arith}
 use borrow.Author.Needs.{needs}
 use lib.ListN.{length, getD, take}
 use lib.Ieee.{ofBits}
-use Rattle.rules.specs.declared.solver.Kid.{Kid}
+use Rattle.rules.specs.declared.solving.Kid.{Kid}
 use Rattle.solver.proofs.Loops.{kid0}
 use Rattle.solver.proofs.Filling.{Filled, filled-start, filled-step, padded-end, zeros, zeros-long, map-more}
 use Rattle.solver.proofs.kids.sizes.Statement.{statement}

@@ -8,7 +8,7 @@ use borrow.Author.Needs.{needs}
 use lib.ListN.{length}
 use lib.Ieee.{ofBits}
 use Rattle.rules.specs.Numbers.{zero-f}
-use Rattle.rules.specs.declared.solver.Kid.{Kid}
+use Rattle.rules.specs.declared.solving.Kid.{Kid}
 use Rattle.solver.proofs.Loops.{Summed, summed-by, summed-end, kid0}
 use Rattle.solver.proofs.sums.fixed_total.Statement.{statement}
 use Rattle.solver.proofs.sums.fixed_total.Tie as tie
