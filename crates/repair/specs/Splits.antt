@@ -3,7 +3,7 @@ use mathlib.Core.Path.{_≡_}
 use mathlib.Core.Bool.{Bool, true, false}
 use mathlib.Core.List.{List, [], _∷_, _++_, map}
 use Prim.Native.Nat.{ℕ, zero, suc, _+_, _*_, _≤_, _<_}
-use lib.ListN.{length, getD, take, set}
+use lib.ListN.{length, getD, take, set, replicate}
 use lib.Ieee.{Float}
 use Rattle.rules.specs.Shares.{repairedShares}
 use Rattle.rules.specs.Minima.{alignedConstraints}
@@ -97,6 +97,10 @@ PlacesIn hs xs ss ms acts c mode k share minimum kept hs′ acts′ d l wide =
     → Placed (cols hs xs ss ms cs seen acts c) (cols hs′ xs ss ms cs seen acts′ d) mode e kept k l wide
 
 -- ---- the parts of closing a split
+
+-- the head of an empty slot
+abbrev pub emptyHead : List ℕ
+emptyHead = replicate 8 0
 
 -- the rows of one slot anew: the lists of a split
 pub record Stored (id mode : ℕ) (xs : List ℕ) (n : ℕ) (ss : List Float) (p : ℕ) (ms : List Float) (q : ℕ) (hs is : List (List ℕ)) (sh mi : List (List Float)) (hs′ is′ : List (List ℕ)) (sh′ mi′ : List (List Float)) : Type 0 where
