@@ -2,3 +2,4 @@ pub mod Columns
 pub mod Walked
 pub mod Steps
 pub mod Splits
+pub mod Opens

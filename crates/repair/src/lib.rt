@@ -9,6 +9,7 @@ pub mod actions;
 pub mod leaves;
 pub mod panes;
 pub mod splits;
+pub mod normalize;
 
 // How many panes were seen and how many actions are listed.
 pub struct Counts {
@@ -42,4 +43,12 @@ pub struct Placing {
     pub kids: Kids,
     pub counts: Counts,
     pub wide: bool,
+}
+
+// A split whose slot is claimed: its axis, its shares as given, its lists mended, and the counts.
+pub struct Opened {
+    pub mode: u64,
+    pub given: Reals,
+    pub rows: Kids,
+    pub counts: Counts,
 }
