@@ -2,8 +2,8 @@
 use mathlib.Core.Path.{_≡_, refl, sym, ap, subst, _∙_}
 use mathlib.Core.Bool.{Bool, true, false, not, _&&_, cond}
 use Prim.Native.Nat.{ℕ, _%_, _/_}
-use lib.Dec.{T, eqb, leb}
-use lib.Ieee.{Float, nan, inf, binary64, nanBits, ofBits, ofFields, div}
+use lib.Dec.{eqb, leb}
+use lib.Ieee.{nan, inf, binary64, nanBits, ofBits, ofFields, div}
 use borrow.Author.Tests.{eq-eqb, ne-eqb}
 
 and-false : (a : Bool) → (a && false) ≡ false

@@ -100,7 +100,7 @@ pub record Sized (C : Cols) : Type 0 where
   pub flags : length (C .claimed) ≡ 64
   pub slim : (i : ℕ) → Slim (getD (C .heads) i [])
   pub panes : C .counts .seen + 16 * free (C .claimed) ≤ 1024
-  pub listing : C .counts .acts + 19 * free (C .claimed) ≤ 1216
+  pub listing : C .counts .acts + 19 * free (C .claimed) ≤ 1217
 
 -- the arrays show the rule's work
 pub record Shows (C : Cols) (w : Work) : Type 0 where

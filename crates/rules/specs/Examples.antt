@@ -29,9 +29,9 @@ use Rattle.rules.specs.declared.model.TabBarPlacement.the-variants.{Top}
 use Rattle.rules.specs.declared.frame.Rect.{Rect}
 use Rattle.rules.specs.declared.frame.LayoutInput.{LayoutInput}
 use Rattle.rules.specs.declared.frame.PaneFrame.{PaneFrame}
-use Rattle.rules.specs.declared.ops.DockTarget.the-variants.{Root}
-use Rattle.rules.specs.declared.ops.TileOp.{TileOp}
-use Rattle.rules.specs.declared.ops.TileOp.the-variants.{SplitPane, MovePane}
+use Rattle.rules.specs.declared.operation.DockTarget.the-variants.{Root}
+use Rattle.rules.specs.declared.operation.TileOp.{TileOp}
+use Rattle.rules.specs.declared.operation.TileOp.the-variants.{SplitPane, MovePane}
 
 -- ---- how a row is written
 

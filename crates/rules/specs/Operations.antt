@@ -23,12 +23,12 @@ use Rattle.rules.specs.declared.model.Placement.{Placement}
 use Rattle.rules.specs.declared.model.Placement.the-variants.{After}
 use Rattle.rules.specs.declared.model.TabBarPlacement.{TabBarPlacement}
 use Rattle.rules.specs.declared.model.TabBarPlacement.the-variants.{Top}
-use Rattle.rules.specs.declared.ops.TabIndex.{TabIndex}
-use Rattle.rules.specs.declared.ops.TabIndex.the-variants.{End, At}
-use Rattle.rules.specs.declared.ops.DockTarget.{DockTarget}
-use Rattle.rules.specs.declared.ops.DockTarget.the-variants.{Root, Split, TabInto}
-use Rattle.rules.specs.declared.ops.TileOp.{TileOp}
-use Rattle.rules.specs.declared.ops.TileOp.the-variants.{ActivatePane, ClosePane, SplitPane, MovePane, ReorderTab}
+use Rattle.rules.specs.declared.operation.TabIndex.{TabIndex}
+use Rattle.rules.specs.declared.operation.TabIndex.the-variants.{End, At}
+use Rattle.rules.specs.declared.operation.DockTarget.{DockTarget}
+use Rattle.rules.specs.declared.operation.DockTarget.the-variants.{Root, Split, TabInto}
+use Rattle.rules.specs.declared.operation.TileOp.{TileOp}
+use Rattle.rules.specs.declared.operation.TileOp.the-variants.{ActivatePane, ClosePane, SplitPane, MovePane, ReorderTab}
 use Rattle.rules.specs.declared.refusal.Answer.{Answer}
 use Rattle.rules.specs.declared.refusal.Answer.the-variants.{Accepted, Refused}
 use Rattle.rules.specs.declared.refusal.Refusal.{Refusal}

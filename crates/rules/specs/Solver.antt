@@ -13,8 +13,8 @@ use Rattle.rules.specs.Numbers.{zero-f, whole, larger, plus, minimumOk, 
 use Rattle.rules.specs.Lists.{allOf}
 use Rattle.rules.specs.Tree.{reals}
 use Rattle.rules.specs.declared.model.Reals.{Reals}
-use Rattle.rules.specs.declared.solver.Kid.{Kid}
-use Rattle.rules.specs.declared.solver.Solution.{Solution}
+use Rattle.rules.specs.declared.solving.Kid.{Kid}
+use Rattle.rules.specs.declared.solving.Solution.{Solution}
 use Rattle.rules.specs.declared.refusal.Answer.{Answer}
 use Rattle.rules.specs.declared.refusal.Answer.the-variants.{Accepted, Refused}
 use Rattle.rules.specs.declared.refusal.Refusal.the-variants.{BadInput}

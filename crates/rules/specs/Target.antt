@@ -12,8 +12,8 @@ use Rattle.rules.specs.Numbers.{isValidSplitFraction}
 use Rattle.rules.specs.Lists.{position}
 use Rattle.rules.specs.Tree.{Node, empty, pane, tabs, split, Arena, nodeAt, kidsOf, panesOf, isEmpty, readingFrom, sameTile}
 use Rattle.rules.specs.declared.model.TileId.{TileId}
-use Rattle.rules.specs.declared.ops.DockTarget.{DockTarget}
-use Rattle.rules.specs.declared.ops.DockTarget.the-variants.{Root, Split, TabInto}
+use Rattle.rules.specs.declared.operation.DockTarget.{DockTarget}
+use Rattle.rules.specs.declared.operation.DockTarget.the-variants.{Root, Split, TabInto}
 use Rattle.rules.specs.declared.refusal.Refusal.{Refusal}
 use Rattle.rules.specs.declared.refusal.Refusal.the-variants.{InvalidTileId, InvalidTarget}
 

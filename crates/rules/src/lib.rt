@@ -2,6 +2,6 @@
 // There is no logic here: what each value means is said in specs/, which docs/RULES.md maps.
 pub mod frame;
 pub mod model;
-pub mod ops;
+pub mod operation;
 pub mod refusal;
-pub mod solver;
+pub mod solving;

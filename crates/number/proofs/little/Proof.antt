@@ -1,8 +1,7 @@
 -- `number::little` meets its contract: the loop's value is what the bytes passed spell. Assumes nothing.
-use Prim.Native.Nat.{ℕ, _+_, _*_, _-_, _<_, _≤_}
+use Prim.Native.Nat.{_+_, _-_, _<_}
 use native.Mathlib.Omega.{arith}
 use borrow.Author.Needs.{needs}
-use lib.ListN.{length, getD}
 use Rattle.number.proofs.Read.{Read, read-start, read-step, read-room, read-end}
 use Rattle.number.proofs.little.Statement.{statement}
 use Rattle.number.proofs.little.Tie as tie

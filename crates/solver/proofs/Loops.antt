@@ -1,0 +1,83 @@
+-- Loops that read the first n elements of an array: a sum, a test of each, and a search, as facts about lists. Assumes nothing.
+use mathlib.Core.Path.{_≡_, sym, ap, _∙_, subst}
+use mathlib.Core.Bool.{Bool, true, false, _&&_, cond}
+use mathlib.Core.List.{List, [], _∷_}
+use Prim.Native.Nat.{ℕ, _+_, _≤_, _<_}
+use native.Mathlib.Numerals.{add-one}
+use native.Mathlib.Omega.{arith}
+use lib.ListN.{length, getD, take, drop}
+use lib.Seq.{drop-cons, getD-take, drop-length, length-take-le}
+use lib.Ieee.{Float, nan, binary64, add}
+use Rattle.rules.specs.Lists.{allOf}
+use Rattle.rules.specs.Solver.{sumBy, short, anyShort}
+use Rattle.rules.specs.declared.solving.Kid.{Kid}
+
+-- what the code reads past an array's end
+abbrev pub kid0 : Kid
+kid0 = record { share = nan; minimum = nan; size = nan; fixed = false }
+
+module _ {A : Type 0} where
+  -- what is left of the first n at i is the element at i, and what is left at i + 1
+  pub rest-at : (xs : List A) (n i : ℕ) (d : A) → i < n → n ≤ length xs → drop i (take n xs) ≡ getD xs i d ∷ drop (i + 1) (take n xs)
+  rest-at xs n i d h k =
+      let e : length (take n xs) ≡ n = length-take-le n xs k in
+      drop-cons (take n xs) i d (omega arith)
+      ∙ (λ j. getD-take n xs i d h j ∷ drop (sym (add-one i) j) (take n xs))
+
+  pub rest-none : (xs : List A) (n i : ℕ) → n ≤ i → i ≤ n → n ≤ length xs → drop i (take n xs) ≡ []
+  rest-none xs n i h g k =
+      let e : i ≡ length (take n xs) = (omega (arith, length-take-le n xs k)) in
+      ap (λ (j : ℕ). drop j (take n xs)) e ∙ drop-length (take n xs)
+
+  -- ---- a sum that has got to i with t
+  abbrev pub Summed : (A → Bool) → (A → Float) → Float → List A → ℕ → ℕ → Float → Type 0
+  Summed on val a xs n i t = sumBy on val t (drop i (take n xs)) ≡ sumBy on val a (take n xs)
+
+  pub summed-step : (on : A → Bool) (val : A → Float) (a : Float) (xs : List A) (n i : ℕ) (t : Float) (d : A) → i < n → n ≤ length xs
+      → Summed on val a xs n i t → Summed on val a xs n (i + 1) (cond (on (getD xs i d)) (add binary64 t (val (getD xs i d))) t)
+  unfolding sumBy
+  summed-step on val a xs n i t d h k e = sym (ap (λ (l : List A). sumBy on val t l) (rest-at xs n i d h k)) ∙ e
+
+  pub summed-end : (on : A → Bool) (val : A → Float) (a : Float) (xs : List A) (n i : ℕ) (t : Float) → n ≤ i → i ≤ n → n ≤ length xs
+      → Summed on val a xs n i t → t ≡ sumBy on val a (take n xs)
+  unfolding sumBy
+  summed-end on val a xs n i t h g k e = sym (ap (λ (l : List A). sumBy on val t l) (rest-none xs n i h g k)) ∙ e
+
+  -- the same by what a test of the element said, and what the code then has for its sum
+  pub summed-by : (on : A → Bool) (val : A → Float) (a : Float) (xs : List A) (n i : ℕ) (t t' : Float) (d : A) (b : Bool) → i < n → n ≤ length xs
+      → on (getD xs i d) ≡ b → t' ≡ cond b (add binary64 t (val (getD xs i d))) t → Summed on val a xs n i t → Summed on val a xs n (i + 1) t'
+  summed-by on val a xs n i t t' d b h k p q e =
+      subst (λ (z : Float). Summed on val a xs n (i + 1) z) (ap (λ (b : Bool). cond b (add binary64 t (val (getD xs i d))) t) p ∙ sym q) (summed-step on val a xs n i t d h k e)
+
+  -- ---- a test of each that has held up to i
+  abbrev pub Tested : (A → Bool) → List A → ℕ → ℕ → Type 0
+  Tested p xs n i = allOf p (drop i (take n xs)) ≡ allOf p (take n xs)
+
+  at-test : (p : A → Bool) (xs : List A) (n i : ℕ) (d : A) (b : Bool) → i < n → n ≤ length xs → b ≡ p (getD xs i d) → allOf p (drop i (take n xs)) ≡ b && allOf p (drop (i + 1) (take n xs))
+  unfolding allOf
+  at-test p xs n i d b h k e = ap (allOf p) (rest-at xs n i d h k) ∙ ap (λ (c : Bool). c && allOf p (drop (i + 1) (take n xs))) (sym e)
+
+  pub tested-step : (p : A → Bool) (xs : List A) (n i : ℕ) (d : A) (b : Bool) → i < n → n ≤ length xs → b ≡ p (getD xs i d) → b ≡ true → Tested p xs n i → Tested p xs n (i + 1)
+  tested-step p xs n i d b h k e t inv = sym (at-test p xs n i d b h k e ∙ ap (λ (c : Bool). c && allOf p (drop (i + 1) (take n xs))) t) ∙ inv
+
+  pub tested-fails : (p : A → Bool) (xs : List A) (n i : ℕ) (d : A) (b : Bool) → i < n → n ≤ length xs → b ≡ p (getD xs i d) → b ≡ false → Tested p xs n i → false ≡ allOf p (take n xs)
+  tested-fails p xs n i d b h k e t inv = sym (at-test p xs n i d b h k e ∙ ap (λ (c : Bool). c && allOf p (drop (i + 1) (take n xs))) t) ∙ inv
+
+  pub tested-end : (p : A → Bool) (xs : List A) (n i : ℕ) → n ≤ i → i ≤ n → n ≤ length xs → Tested p xs n i → true ≡ allOf p (take n xs)
+  unfolding allOf
+  tested-end p xs n i h g k inv = sym (ap (allOf p) (rest-none xs n i h g k)) ∙ inv
+
+-- ---- a search that has found no short child up to i
+at-short : (kids : List Kid) (n i : ℕ) (b : Bool) → i < n → n ≤ length kids → short (getD kids i kid0) ≡ b → anyShort (drop i (take n kids)) ≡ cond b true (anyShort (drop (i + 1) (take n kids)))
+unfolding anyShort
+at-short kids n i b h k e = ap anyShort (rest-at kids n i kid0 h k) ∙ ap (λ (c : Bool). cond c true (anyShort (drop (i + 1) (take n kids)))) e
+
+pub short-step : (kids : List Kid) (n i : ℕ) → i < n → n ≤ length kids → short (getD kids i kid0) ≡ false → anyShort (drop i (take n kids)) ≡ anyShort (drop (i + 1) (take n kids))
+short-step kids n i h k e = at-short kids n i false h k e
+
+pub short-found : (kids : List Kid) (n i : ℕ) → i < n → n ≤ length kids → short (getD kids i kid0) ≡ true → anyShort (drop i (take n kids)) ≡ true
+short-found kids n i h k e = at-short kids n i true h k e
+
+pub short-none : (kids : List Kid) (n i : ℕ) → n ≤ i → i ≤ n → n ≤ length kids → anyShort (drop i (take n kids)) ≡ false
+unfolding anyShort
+short-none kids n i h g k = ap anyShort (rest-none kids n i h g k)

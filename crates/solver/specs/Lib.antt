@@ -1,0 +1,5 @@
+-- What is proved of the solver's rules, and what its calls hand back past a list's length.
+pub mod Loop
+pub mod Children
+pub mod Demand
+pub mod Call

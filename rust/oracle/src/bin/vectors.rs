@@ -1,0 +1,127 @@
+//! Writes the stored answers: a fixed sample of cases with the model's answers,
+//! each of which the original has confirmed. docs/VECTORS.md has the format.
+//!
+//! vectors [folder], by default oracle/vectors seen from the folder rust.
+
+use std::fs;
+use std::path::{Path, PathBuf};
+
+use oracle::check::{Kind, RUN, compare, layout_case, run_start, shown_input};
+use oracle::engine::Engine;
+use oracle::generate::hostile::arena;
+use oracle::generate::operations::operation;
+use oracle::generate::rng::Rng;
+use oracle::generate::solver::solver_input;
+use oracle::generate::tables::table;
+use oracle::model::Model;
+use oracle::original::Original;
+use oracle::wire::Writer;
+
+/// Not the comparison's usual seed, so that a stored case is one of its own.
+const SEED: u64 = 20_260_101;
+
+/// A reader may keep a case in a buffer of this size.
+const LARGEST_BODY: usize = 65_536;
+const LARGEST_FILE: usize = 4_000_000;
+
+struct File {
+    kind: Kind,
+    name: &'static str,
+    magic: &'static [u8; 8],
+    cases: u64,
+}
+
+const FILES: [File; 5] = [
+    File { kind: Kind::Solve, name: "solve.bin", magic: b"DVSOLVE1", cases: 4000 },
+    File { kind: Kind::Repair, name: "repair.bin", magic: b"DVREPAI1", cases: 2000 },
+    File { kind: Kind::Operations, name: "operations.bin", magic: b"DVOPERA1", cases: 1000 },
+    File { kind: Kind::Layout, name: "layout.bin", magic: b"DVLAYOU1", cases: 800 },
+    File { kind: Kind::Spec, name: "spec.bin", magic: b"DVSPECS1", cases: 2000 },
+];
+
+fn main() {
+    let folder = std::env::args().nth(1).map_or_else(default_folder, PathBuf::from);
+    fs::create_dir_all(&folder).expect("the folder can be made");
+    for file in &FILES {
+        write(&folder, file);
+    }
+}
+
+fn default_folder() -> PathBuf {
+    Path::new(env!("CARGO_MANIFEST_DIR")).join("vectors")
+}
+
+fn write(folder: &Path, file: &File) {
+    let mut out = Writer::default();
+    out.bytes.extend(file.magic);
+    out.number(file.cases);
+    let mut largest = 0;
+    for case in 0..file.cases {
+        confirm(file.kind, case);
+        let body = body(file.kind, &mut file.kind.rng(SEED, case));
+        assert!(body.len() <= LARGEST_BODY, "{} case {case} is too large", file.name);
+        largest = largest.max(body.len());
+        out.number(body.len() as u64);
+        out.bytes.extend(body);
+    }
+    assert!(out.bytes.len() < LARGEST_FILE, "{} is too large: {}", file.name, out.bytes.len());
+    fs::write(folder.join(file.name), &out.bytes).expect("the file can be written");
+    println!(
+        "{:<15} {} cases, {} bytes, largest case {largest} bytes",
+        file.name,
+        file.cases,
+        out.bytes.len()
+    );
+}
+
+/// No answer is stored that the original does not give as well.
+fn confirm(kind: Kind, case: u64) {
+    if let Err(input) = compare(kind, SEED, case, &mut Original, &mut Model) {
+        panic!("the original differs on {} case {case}:\n{}", kind.name(), shown_input(&input));
+    }
+}
+
+fn body(kind: Kind, rng: &mut Rng) -> Vec<u8> {
+    let mut out = Writer::default();
+    match kind {
+        Kind::Solve => {
+            let input = solver_input(rng);
+            out.real(input.total);
+            out.reals(&input.shares);
+            out.reals(&input.minima);
+            out.solve_answer(&Model.solve(input.total, &input.shares, &input.minima));
+        }
+        Kind::Repair => {
+            let tree = arena(rng);
+            out.tree(&tree);
+            out.repair_answer(&tree, Model.is_sound(&tree), &Model.repair(&tree));
+        }
+        Kind::Operations => run(&mut out, rng),
+        Kind::Layout => {
+            let (tree, input) = layout_case(rng);
+            out.tree(&tree);
+            out.input(&input);
+            out.layout_answer(&Model.layout(&tree, &input));
+        }
+        Kind::Spec => {
+            let bytes = table(rng);
+            out.number(bytes.len() as u64);
+            out.bytes.extend(&bytes);
+            out.spec_answer(&Model.from_spec(&bytes));
+        }
+    }
+    out.bytes
+}
+
+fn run(out: &mut Writer, rng: &mut Rng) {
+    let mut tree = run_start(rng);
+    out.tree(&tree);
+    out.number(RUN as u64);
+    for _ in 0..RUN {
+        let op = operation(rng, &tree);
+        let answer = Model.apply(&tree, &op);
+        out.op(&op);
+        out.apply_answer(&tree, &answer);
+        tree = answer.tree;
+    }
+}

@@ -1,0 +1,2 @@
+//! The original's spec.rs, unchanged.
+include!(concat!(env!("UNDERSTORY_SRC"), "/spec.rs"));

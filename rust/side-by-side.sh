@@ -1,0 +1,11 @@
+#!/bin/sh
+# From a fresh clone: installs what is missing, builds, and compares the
+# original with the model on a million answers of each kind, or as many as the
+# first argument says. Further arguments go to `compare`.
+set -eu
+cd "$(dirname "$0")"
+./setup.sh
+count="${1:-1000000}"
+[ $# -gt 0 ] && shift
+cargo build --release -j1
+./target/release/compare --count "$count" "$@"
