@@ -1,20 +1,20 @@
 -- Laws that the proofs of the list of actions, of the panes seen and of the leaves cite, over plain values. Assumes nothing.
 use mathlib.Core.Path.{_≡_, refl, sym, ap, subst, _∙_}
-use mathlib.Core.Bool.{Bool, true, false, not, _&&_, _||_}
+use mathlib.Core.Bool.{Bool, true, false, not, _||_}
 use mathlib.Core.List.{List, [], _∷_, _++_, map}
 use mathlib.Core.Option.{Option, none, some}
-use Prim.Native.Nat.{ℕ, zero, suc, _+_, _*_, _≤_, _<_}
+use Prim.Native.Nat.{ℕ, zero, suc, _+_, _≤_, _<_}
 use native.Mathlib.Numerals.{add-one}
 use native.Mathlib.Omega.{arith}
 use native.Mathlib.Nat.{not-suc-le-zero, le-of-suc-le-suc}
 use borrow.Author.Tests.{lt-leb, eq-eqb, ne-eqb}
-use lib.Dec.{leb, eqb}
+use lib.Dec.{eqb}
 use lib.Ieee.{Float}
-use lib.ListN.{length, take, drop, getD, getElem?, set, length-set, length-append, length-take, drop-of-length-le}
-use lib.Seq.{take-all, take-suc-set, getD-take, drop-cons, length-take-le}
+use lib.ListN.{length, take, drop, getD, getElem?, set, length-set, length-take, drop-of-length-le}
+use lib.Seq.{take-suc-set, getD-take, drop-cons, length-take-le}
 use Rattle.rules.specs.Lists.{anyOf, contains, position}
 use Rattle.rules.specs.Tree.{Node, empty, pane, tabs, tile, nodeAt}
-use Rattle.rules.specs.Repair.{State, Work, Out, out, actionCode, actionTile, actionPane, sameAction, addedBy, added, addedIf, claim, paneBy, Sifted, sifted, siftBy, siftPane, retain, orFirst, activeOf, groupDone, groupLeft, groupStep, byNode, byClaimed, byRange, tileStep, normalizeNode}
+use Rattle.rules.specs.Repair.{State, Work, Out, actionCode, actionTile, actionPane, sameAction, addedBy, added, claim, paneBy, Sifted, sifted, siftBy, siftPane, retain, orFirst, activeOf, groupDone, groupLeft, groupStep, byNode, byClaimed, byRange, tileStep, normalizeNode}
 use Rattle.rules.specs.declared.model.TileId.{TileId}
 use Rattle.rules.specs.declared.model.Ids.{Ids}
 use Rattle.rules.specs.declared.model.TabBarPlacement.{TabBarPlacement}
@@ -22,17 +22,17 @@ use Rattle.rules.specs.declared.model.RepairAction.{RepairAction}
 use Rattle.rules.specs.declared.model.RepairAction.the-variants.{RemovedInvalidNode, RepairedActiveTab, RemovedDuplicatePane}
 use Rattle.forest.specs.Lists.{free, free-set}
 use Rattle.forest.specs.Grow.{retained}
-use Rattle.lists.specs.Exact.{Exactly, IsIds, Pushed}
+use Rattle.lists.specs.Exact.{IsIds, Pushed}
 use Rattle.lists.specs.Build.{exactly-push}
 use Rattle.lists.specs.Find.{placeOf}
 use Rattle.lists.specs.declared.Place.{Place}
 use Rattle.lists.specs.Tests.{Flagged, flagged-more, flagged-all}
 use Rattle.repair.specs.Columns.{Cols, cols, nodesIn, Sized, Shows, Slim, barFrom, nodeBy, nodeFrom, nodesFrom, codeOf, isCode, listed, Lists, Noted}
 use Rattle.repair.specs.Walked.{Answers, reserve, Walked}
-use Rattle.repair.specs.Steps.{SiftIs, Sifts, Retains, Open, Dropped, LeafWalked, GroupWalked}
+use Rattle.repair.specs.Steps.{SiftIs, Sifts, Retains, Open}
 use Rattle.repair.specs.declared.Counts.{Counts}
 use Rattle.repair.specs.declared.Kept.{Kept}
-use Rattle.repair.specs.declared.Kept.the-variants.{At, Gone, Wide}
+use Rattle.repair.specs.declared.Kept.the-variants.{At, Gone}
 use Rattle.repair.specs.declared.panes.Sift.{Sift}
 use Rattle.repair.proofs.ColumnLaws.{nodes-at, nodes-head, nodes-row, slim-set}
 

@@ -39,13 +39,13 @@ pub fn pane_step(
     requires { ⌜ Open (now heads) (now claimed) c id × (getD (getD (now heads) id []) 0 0 ≡ 1) ⌝ }
     ensures { λ r. ⌜ LeafWalked (now (heads .entry)) (now (claimed .entry)) (now (seen .entry)) (now (acts .entry)) c (now (heads .exit)) (now (claimed .exit)) (now (seen .exit)) (now (acts .exit)) (r .counts) (r .kept) id ⌝ }
 {
-    let i = id as usize;
-    claimed[i] = true;
-    let h = heads[i];
+    let slot = id as usize;
+    claimed[slot] = true;
+    let h = heads[slot];
     let pane = h[2];
     if panes::saw(seen, c.seen, pane) {
         let n = actions::note(acts, c.acts, actions::REMOVED_DUPLICATE_PANE, id, pane);
-        heads[i] = [0u64; 8];
+        heads[slot] = [0u64; 8];
         return Walk {
             kept: Kept::Gone,
             counts: Counts {

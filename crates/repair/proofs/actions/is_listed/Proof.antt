@@ -1,10 +1,9 @@
 -- `repair::actions::is_listed` passes one action after another until one is the same. Assumes nothing.
-use mathlib.Core.Path.{_≡_, refl, sym, _∙_}
+use mathlib.Core.Path.{refl, sym, _∙_}
 use mathlib.Core.List.{[]}
 use Prim.Native.Nat.{_≤_, _-_}
 use native.Mathlib.Omega.{arith}
 use borrow.Author.Needs.{needs}
-use lib.ListN.{length}
 use Rattle.repair.specs.Columns.{isCode}
 use Rattle.repair.proofs.LeafLaws.{Searched, searched-more, searched-found, searched-all}
 use Rattle.repair.proofs.actions.is_listed.Statement.{statement}

@@ -1,6 +1,5 @@
 -- `repair::panes::keep_pane` is one step of the rule's `retain`. Assumes nothing.
-use mathlib.Core.Path.{_≡_, refl, sym, _∙_}
-use native.Mathlib.Omega.{arith}
+use mathlib.Core.Path.{refl, sym, _∙_}
 use borrow.Author.Needs.{needs}
 use Rattle.rules.specs.Tree.{tile}
 use Rattle.rules.specs.declared.model.RepairAction.the-variants.{RemovedDuplicatePane}

@@ -1,13 +1,12 @@
 -- `repair::panes::retain` is the rule's `retain`: its loop, by what is left. Assumes nothing.
-use mathlib.Core.Path.{_≡_, refl, sym, _∙_}
-use mathlib.Core.List.{[]}
-use Prim.Native.Nat.{_≤_, _-_}
+use mathlib.Core.Path.{_≡_}
+use Prim.Native.Nat.{_-_}
 use native.Mathlib.Omega.{arith}
 use borrow.Author.Needs.{needs}
 use lib.ListN.{length, take, getD, length-take}
 use lib.Seq.{getD-take, length-take-le}
 use Rattle.rules.specs.Tree.{ids}
-use Rattle.repair.proofs.LeafLaws.{counted, sifting, Sifting, sifting-none, sifting-more, sifting-all}
+use Rattle.repair.proofs.LeafLaws.{sifting, Sifting, sifting-none, sifting-more, sifting-all}
 use Rattle.repair.proofs.panes.retain.Statement.{statement}
 use Rattle.repair.proofs.panes.retain.Tie as tie
 

@@ -1,11 +1,10 @@
 -- `repair::panes::saw` passes one pane after another until one is the same. Assumes nothing.
-use mathlib.Core.Path.{_≡_, refl, sym, _∙_}
+use mathlib.Core.Path.{refl}
 use Prim.Native.Nat.{_≤_, _-_}
 use native.Mathlib.Omega.{arith}
 use borrow.Author.Needs.{needs}
 use borrow.Author.Tests.{eq-eqb, ne-eqb}
 use lib.Dec.{eqb}
-use lib.ListN.{length}
 use Rattle.repair.proofs.LeafLaws.{Searched, searched-more, searched-found, searched-all}
 use Rattle.repair.proofs.panes.saw.Statement.{statement}
 use Rattle.repair.proofs.panes.saw.Tie as tie
