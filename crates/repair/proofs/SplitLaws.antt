@@ -2,38 +2,37 @@
 use mathlib.Core.Path.{_≡_, refl, sym, ap, subst, _∙_}
 use mathlib.Core.Bool.{Bool, true, false, not, _&&_, _||_}
 use mathlib.Core.List.{List, [], _∷_, _++_, map, append-assoc}
-use mathlib.Core.Option.{Option, none, some}
+use mathlib.Core.Option.{none, some}
 use Prim.Native.Nat.{ℕ, zero, suc, _+_, _*_, _≤_, _<_}
 use native.Mathlib.Nat.{le-of-suc-le-suc}
 use native.Mathlib.Numerals.{add-one}
 use native.Mathlib.Omega.{arith}
-use borrow.Author.Tests.{eq-eqb, ne-eqb, eqb-true}
+use borrow.Author.Tests.{ne-eqb, eqb-true}
 use lib.Dec.{eqb}
 use lib.ListN.{length, getD, take, drop, set, length-set, length-map, length-append, length-replicate, drop-of-length-le}
 use lib.Seq.{drop-cons, length-take-le}
-use lib.Ieee.{Float, binary64, mul, eq}
+use lib.Ieee.{Float, eq}
 use Rattle.rules.specs.Numbers.{zero-f, one-f, shareOk}
 use Rattle.rules.specs.Lists.{anyOf}
 use Rattle.rules.specs.Shares.{fixShare, mendedBy, repairedBy, repairedShares, eqReals}
 use Rattle.rules.specs.Minima.{alignedConstraints, compactConstraints}
-use Rattle.rules.specs.Tree.{Node, empty, pane, tabs, split, tile, ids, reals, sameAxis, axisCode}
+use Rattle.rules.specs.Tree.{Node, empty, split, tile, ids, reals, sameAxis}
 use Rattle.rules.specs.Repair.{Work, Out, out, Entry, entry, entries, Run, run, melts, melted, scaled, place, placeBy, note, noteIf, store, clear, addedIf, childrenOf, sharesOf, minimaOf, keptSplit, splitLeft, splitDone}
 use Rattle.rules.specs.declared.model.TileId.{TileId}
 use Rattle.rules.specs.declared.model.Axis.{Axis}
 use Rattle.rules.specs.declared.model.RepairAction.{RepairAction}
 use Rattle.rules.specs.declared.model.RepairAction.the-variants.{RemovedInvalidNode, RepairedShares, RepairedConstraints, CollapsedSplit}
-use Rattle.rules.specs.declared.model.Ids.{Ids}
 use Rattle.rules.specs.declared.model.Reals.{Reals}
-use Rattle.lists.specs.Exact.{Exactly, IsReals, Pushed}
+use Rattle.lists.specs.Exact.{IsReals, Pushed}
 use Rattle.forest.specs.Lists.{free}
 use Rattle.forest.specs.Mended.{aligned-length}
-use Rattle.repair.specs.Columns.{Cols, cols, nodesIn, Sized, Shows, Slim, Noted, codeOf, axisFrom, nodeBy, nodeFrom, nodesFrom}
+use Rattle.repair.specs.Columns.{Cols, cols, Sized, Shows, Slim, Noted, codeOf, axisFrom, nodeBy, nodeFrom, nodesFrom}
 use Rattle.repair.specs.Walked.{Even, entriesOf, reserve, Placed}
 use Rattle.repair.specs.Splits.{Loaded, Mends, BadNoted, Long, Grown, mendedOf, Fits, emptyHead, Stored, Closed}
 use Rattle.repair.specs.declared.Kids.{Kids}
 use Rattle.repair.specs.declared.Counts.{Counts}
 use Rattle.repair.specs.declared.Kept.{Kept}
-use Rattle.repair.specs.declared.Kept.the-variants.{At, Gone, Wide}
+use Rattle.repair.specs.declared.Kept.the-variants.{At, Gone}
 use Rattle.repair.specs.declared.Placing.{Placing}
 use Rattle.repair.proofs.ColumnLaws.{nodes-at, nodes-set, nodes-head, slim-set}
 

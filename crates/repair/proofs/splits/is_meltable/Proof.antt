@@ -1,6 +1,5 @@
 -- `repair::splits::is_meltable`, by cases. Assumes nothing.
 use mathlib.Core.Path.{sym, _∙_}
-use native.Mathlib.Omega.{arith}
 use borrow.Author.Tests.{not-true, not-false}
 use lib.Ieee.{ofBits}
 use Rattle.repair.proofs.SplitLaws.{melts-kind, melts-axis, melts-split}

@@ -1,7 +1,6 @@
 -- `repair::splits::keep_split` stores the lists with their shares repaired. Assumes nothing.
-use mathlib.Core.Path.{refl, ap, _∙_}
+use mathlib.Core.Path.{refl, ap}
 use mathlib.Core.Bool.{Bool, not, _||_}
-use native.Mathlib.Omega.{arith}
 use borrow.Author.Needs.{needs}
 use Rattle.rules.specs.Tree.{tile}
 use Rattle.rules.specs.declared.model.RepairAction.the-variants.{RepairedShares}

@@ -1,5 +1,5 @@
 -- `repair::splits::melt_all` pushes each child of the split that is melted in. Assumes nothing.
-use mathlib.Core.Path.{_≡_, sym, _∙_}
+use mathlib.Core.Path.{sym, _∙_}
 use Prim.Native.Nat.{_-_}
 use native.Mathlib.Omega.{arith}
 use borrow.Author.Needs.{needs}
@@ -7,7 +7,7 @@ use lib.Ieee.{ofBits}
 use Rattle.rules.specs.Numbers.{zero-f}
 use Rattle.rules.specs.Tree.{tile, ids, reals}
 use Rattle.rules.specs.Repair.{Entry, entry}
-use Rattle.repair.specs.Walked.{Even, entriesOf}
+use Rattle.repair.specs.Walked.{entriesOf}
 use Rattle.repair.specs.Splits.{Long}
 use Rattle.repair.proofs.SplitLaws.{zipped, Melting, melting-start, melting-more, melting-done, Alike, alike-count, alike-even, even-count, even-at}
 use Rattle.repair.proofs.splits.melt_all.Statement.{statement}
