@@ -234,6 +234,18 @@ reserve-most Wide = omega arith
 abbrev noEntry : Entry
 noEntry = entry (tile 0) zero-f zero-f
 
+-- where the loop over a split's children stands: j of them are done, from the arrays D that the opening of the split left, and C₀ before it
+pub record Going (rows : Kids) (C₀ D : Cols) (id mode : ℕ) (given : Reals) (C : Cols) (k : Kids) (j : ℕ) : Type 0 where
+  pub within : j ≤ rows .children .len
+  pub sized : Sized C
+  pub even : Even k
+  pub fewer : free (C .claimed) ≤ free (D .claimed)
+  pub panes : C .counts .seen + 16 * free (C .claimed) ≤ D .counts .seen + 16 * free (D .claimed)
+  pub listing : C .counts .acts + 19 * free (C .claimed) ≤ D .counts .acts + 19 * free (D .claimed) + j
+  pub right : (w : Work) → Shows C₀ w → (f : ℕ) → free (C₀ .claimed) ≤ suc f
+      → (r : Run) × (r .list ≡ entriesOf k) × (r .moved ≡ k .moved) × Shows C (r .left) × Before (claim (tile id) w .state) (axisFrom mode) r
+      × (normalizeNode (suc f) (tile id) w ≡ splitDone (tile id) (axisFrom mode) (reals given) (kidsFrom (normalizeNode f) (axisFrom mode) (drop j (entriesOf rows)) r))
+
 -- the array's own list, and its length
 module _ (rows : Kids) (E : Even rows) (long : length (ids (rows .children)) ≡ rows .children .len) (long-s : length (reals (rows .shares)) ≡ rows .shares .len) (long-m : length (reals (rows .minima)) ≡ rows .minima .len) where
   abbrev child : ℕ → ℕ
@@ -255,19 +267,7 @@ module _ (rows : Kids) (E : Even rows) (long : length (ids (rows .children)) ≡
     less : free (C₀ .claimed) ≡ suc (free (D .claimed))
     less = free-set (C₀ .claimed) id (omega (arith, S₀ .flags)) open-yet ∙ ap (λ (fs : List Bool). suc (free fs)) (sym (O .flags))
 
-    -- where the loop stands: j of the children are done
-    pub record Going (C : Cols) (k : Kids) (j : ℕ) : Type 0 where
-      pub within : j ≤ rows .children .len
-      pub sized : Sized C
-      pub even : Even k
-      pub fewer : free (C .claimed) ≤ free (D .claimed)
-      pub panes : C .counts .seen + 16 * free (C .claimed) ≤ D .counts .seen + 16 * free (D .claimed)
-      pub listing : C .counts .acts + 19 * free (C .claimed) ≤ D .counts .acts + 19 * free (D .claimed) + j
-      pub right : (w : Work) → Shows C₀ w → (f : ℕ) → free (C₀ .claimed) ≤ suc f
-          → (r : Run) × (r .list ≡ entriesOf k) × (r .moved ≡ k .moved) × Shows C (r .left) × Before (claim (tile id) w .state) a r
-          × (normalizeNode (suc f) (tile id) w ≡ splitDone (tile id) a (reals given) (kidsFrom (normalizeNode f) a (drop j (entriesOf rows)) r))
-
-    pub going-start : (k : Kids) → Even k → entriesOf k ≡ [] → k .moved ≡ false → Going D k 0
+    pub going-start : (k : Kids) → Even k → entriesOf k ≡ [] → k .moved ≡ false → Going rows C₀ D id mode given D k 0
     going-start k even none′ still =
         record {
           within = omega arith;
@@ -282,7 +282,7 @@ module _ (rows : Kids) (E : Even rows) (long : length (ids (rows .children)) ≡
     claim-good : (w : Work) → Shows C₀ w → Good (claim (tile id) w .state)
     claim-good w W = let (p, q) = shows-good C₀ S₀ w W in (length-set (w .state .claimed) id true ∙ p, q)
 
-    module _ (C : Cols) (k : Kids) (j : ℕ) (G : Going C k j) (lt : j < rows .children .len) where
+    module _ (C : Cols) (k : Kids) (j : ℕ) (G : Going rows C₀ D id mode given C k j) (lt : j < rows .children .len) where
       cl : Least (entryAt j)
       cl = subst Least (rows-at j lt) (all-getD Least (entriesOf rows) noEntry j (omega (arith, rows-long)) (O .least))
 
@@ -378,7 +378,7 @@ module _ (rows : Kids) (E : Even rows) (long : length (ids (rows .children)) ≡
                   (subst (λ (x : Run). 16 < length (x .list)) (sym (placing-is f (fuel f h) r p m U)) (P .over e (o .work) (shown f (fuel f h) r U))))
 
           -- one child more
-          pub going-more : wide ≡ false → Going E₂ l (j + 1)
+          pub going-more : wide ≡ false → Going rows C₀ D id mode given E₂ l (j + 1)
           going-more e =
               record {
                 within = omega arith;
@@ -403,7 +403,7 @@ module _ (rows : Kids) (E : Even rows) (long : length (ids (rows .children)) ≡
               }
 
     -- ---- closed
-    pub going-done : (C : Cols) (k : Kids) (j : ℕ) → Going C k j → rows .children .len ≤ j → (F : Cols) (kept : Kept) → Closed C F id mode given k kept → Walked C₀ F kept id
+    pub going-done : (C : Cols) (k : Kids) (j : ℕ) → Going rows C₀ D id mode given C k j → rows .children .len ≤ j → (F : Cols) (kept : Kept) → Closed C F id mode given k kept → Walked C₀ F kept id
     unfolding kidsFrom
     going-done C k j G le F kept K =
         let same : free (F .claimed) ≡ free (C .claimed) = ap free (K .flags) in
@@ -424,3 +424,63 @@ module _ (rows : Kids) (E : Even rows) (long : length (ids (rows .children)) ≡
             ∙ (λ i. splitDone (tile id) a (reals given) (run (p i) (m i) (r .left))) in
             let (x, y) = K .right (r .left) U in
             subst (Answers kept (Shows F) (w .state)) (sym z) (kept-answers kept (Shows F) (w .state) (splitDone (tile id) a (reals given) (run (entriesOf k) (k .moved) (r .left))) (K .narrow) x y)
+
+-- ---- the same, with all that the loop's place in the code tells in one record
+
+pub record Ctx (rows : Kids) (C₀ D : Cols) (id mode : ℕ) (given : Reals) : Type 0 where
+  pub sized : Sized C₀
+  pub room : C₀ .counts .acts + 19 * free (C₀ .claimed) ≤ 1216
+  pub inside : id < 64
+  pub open-yet : getD (C₀ .claimed) id false ≡ false
+  pub opens : Opens C₀ D id mode given rows
+  pub long : length (ids (rows .children)) ≡ rows .children .len
+  pub long-shares : length (reals (rows .shares)) ≡ rows .shares .len
+  pub long-minima : length (reals (rows .minima)) ≡ rows .minima .len
+
+module _ {rows : Kids} {C₀ D : Cols} {id mode : ℕ} {given : Reals} (X : Ctx rows C₀ D id mode given) where
+  less-free : free (C₀ .claimed) ≡ suc (free (D .claimed))
+  less-free = less rows (X .opens .even) (X .long) (X .long-shares) (X .long-minima) C₀ D id mode given (X .sized) (X .inside) (X .open-yet) (X .opens)
+
+  pub start : (k : Kids) → Even k → entriesOf k ≡ [] → k .moved ≡ false → Going rows C₀ D id mode given D k 0
+  start = going-start rows (X .opens .even) (X .long) (X .long-shares) (X .long-minima) C₀ D id mode given (X .sized) (X .inside) (X .open-yet) (X .opens)
+
+  module _ {C : Cols} {k : Kids} {j : ℕ} (G : Going rows C₀ D id mode given C k j) where
+    -- the measure falls, and there is room for what a child may list
+    pub falls-by : free (C .claimed) + free (C .claimed) + 1 < free (C₀ .claimed) + free (C₀ .claimed)
+    falls-by = omega (arith, less-free, G .fewer)
+
+    pub room-for : j < rows .children .len → C .counts .acts + 19 * free (C .claimed) ≤ 1214
+    room-for lt = omega (arith, less-free, G .listing, X .opens .listing, X .opens .even .few, X .room)
+
+    pub room-end : C .counts .acts + 1 + 19 * free (C .claimed) ≤ 1216
+    room-end = omega (arith, less-free, G .listing, G .within, X .opens .listing, X .opens .even .few, X .room)
+
+    module _ (lt : j < rows .children .len) (i : ℕ) (at : i ≡ getD (ids (rows .children)) j 0) (E₁ : Cols) (kept : Kept) (V′ : Walked C E₁ kept i) where
+      child-walked : Walked C E₁ kept (getD (ids (rows .children)) j 0)
+      child-walked = subst (Walked C E₁ kept) at V′
+
+      pub too-wide : isWide kept ≡ true → Walked C₀ E₁ Wide id
+      too-wide =
+          child-wide rows (X .opens .even) (X .long) (X .long-shares) (X .long-minima) C₀ D id mode given (X .sized) (X .inside) (X .open-yet) (X .opens) C k j G lt E₁ kept child-walked
+
+      pub room-placed : E₁ .counts .acts + reserve kept + 19 * free (E₁ .claimed) ≤ 1216
+      room-placed = omega (arith, V′ .listing, room-for lt)
+
+      module _ (n : isWide kept ≡ false) (E₂ : Cols) (l : Kids) (wide : Bool)
+          (P : Placed E₁ E₂ mode (entry (tile (getD (ids (rows .children)) j 0)) (getD (reals (rows .shares)) j zero-f) (getD (reals (rows .minima)) j zero-f)) kept k l wide) where
+        pub too-many : wide ≡ true → Walked C₀ E₂ Wide id
+        too-many =
+            placed-wide rows (X .opens .even) (X .long) (X .long-shares) (X .long-minima) C₀ D id mode given (X .sized) (X .inside) (X .open-yet) (X .opens) C k j G lt E₁ kept child-walked n E₂ l wide P
+
+        pub one-more : wide ≡ false → Going rows C₀ D id mode given E₂ l (j + 1)
+        one-more =
+            going-more rows (X .opens .even) (X .long) (X .long-shares) (X .long-minima) C₀ D id mode given (X .sized) (X .inside) (X .open-yet) (X .opens) C k j G lt E₁ kept child-walked n E₂ l wide P
+
+    pub all-done : rows .children .len ≤ j → (F : Cols) (kept : Kept) → Closed C F id mode given k kept → Walked C₀ F kept id
+    all-done = going-done rows (X .opens .even) (X .long) (X .long-shares) (X .long-minima) C₀ D id mode given (X .sized) (X .inside) (X .open-yet) (X .opens) C k j G
+
+pub context : {rows : Kids} {C₀ D : Cols} {id mode : ℕ} {given : Reals} → Sized C₀ → C₀ .counts .acts + 19 * free (C₀ .claimed) ≤ 1216 → id < 64 → getD (C₀ .claimed) id false ≡ false
+    → Opens C₀ D id mode given rows
+    → (length (ids (rows .children)) ≡ rows .children .len) × (length (reals (rows .shares)) ≡ rows .shares .len) × (length (reals (rows .minima)) ≡ rows .minima .len)
+    → Ctx rows C₀ D id mode given
+context S room inside open-yet O m = record { sized = S; room = room; inside = inside; open-yet = open-yet; opens = O; long = m .0; long-shares = m .1; long-minima = m .2 }

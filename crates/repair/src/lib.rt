@@ -7,9 +7,9 @@ use rules::model::Reals;
 
 pub mod actions;
 pub mod leaves;
+pub mod normalize;
 pub mod panes;
 pub mod splits;
-pub mod normalize;
 
 // How many panes were seen and how many actions are listed.
 pub struct Counts {

@@ -71,7 +71,10 @@ fn open_split(
         mode,
         given,
         rows,
-        counts: Counts { seen: c.seen, acts: n },
+        counts: Counts {
+            seen: c.seen,
+            acts: n,
+        },
     }
 }
 
@@ -79,8 +82,7 @@ fn open_split(
 fn measured(k: Kids)
     requires { ⌜ Even k ⌝ }
     ensures { λ r. ⌜ (length (Tree.ids (k .children)) ≡ k .children .len) × (length (Tree.reals (k .shares)) ≡ k .shares .len) × (length (Tree.reals (k .minima)) ≡ k .minima .len) ⌝ }
-{
-}
+{}
 
 // normalize_node
 pub fn normalize_node(
@@ -146,7 +148,17 @@ fn normalize_split(
     let mut j = 0usize;
     while j < n {
         let child = id_list::get(children, j, 0);
-        let w = normalize_node(heads, ids, shares, minima, claimed, seen, acts, counts, child);
+        let w = normalize_node(
+            heads,
+            ids,
+            shares,
+            minima,
+            claimed,
+            seen,
+            acts,
+            counts,
+            child,
+        );
         let kept = w.kept;
         let after = w.counts;
         if is_wide(kept) {
@@ -157,7 +169,19 @@ fn normalize_split(
         }
         let share = reals::get(olds, j, 0.0);
         let minimum = reals::get(least, j, 0.0);
-        let p = splits::place(heads, ids, shares, minima, acts, after, mode, kids, share, minimum, kept);
+        let p = splits::place(
+            heads,
+            ids,
+            shares,
+            minima,
+            acts,
+            after,
+            mode,
+            kids,
+            share,
+            minimum,
+            kept,
+        );
         let placed = p.counts;
         if p.wide {
             return Walk {
@@ -171,5 +195,16 @@ fn normalize_split(
         j += 1;
     }
     let given = o.given;
-    splits::split_done(heads, ids, shares, minima, acts, counts, id, mode, given, kids)
+    splits::split_done(
+        heads,
+        ids,
+        shares,
+        minima,
+        acts,
+        counts,
+        id,
+        mode,
+        given,
+        kids,
+    )
 }

@@ -1,4 +1,19 @@
-use Prim.Native.Nat.{ℕ, _<_}
+-- The cycle of `repair::normalize_node` and `normalize_split`. Each answer hands paths to a law of WalkLaws. Assumes nothing.
+use mathlib.Core.Path.{_≡_, refl, sym, ap, subst, _∙_}
+use mathlib.Core.Bool.{Bool, true, false}
+use mathlib.Core.List.{List, []}
+use Prim.Native.Nat.{ℕ, _+_, _-_, _≤_, _<_}
+use native.Mathlib.Omega.{arith}
+use borrow.Author.Needs.{needs}
+use lib.ListN.{length, getD, set}
+use lib.Ieee.{ofBits}
+use Rattle.rules.specs.Numbers.{zero-f}
+use Rattle.rules.specs.Repair.{entry}
+use Rattle.rules.specs.Tree.{tile, ids, reals}
+use Rattle.forest.specs.Lists.{free}
+use Rattle.repair.specs.Columns.{Cols, cols, Sized, nodeBy}
+use Rattle.repair.specs.Opens.{Opens}
+use Rattle.repair.proofs.WalkLaws.{slot-is, gone-out, gone-claimed, gone-empty, dropped, Going, Ctx, context, start, falls-by, room-for, room-end, too-wide, room-placed, too-many, one-more, all-done, not-wide}
 use borrow.Fn.Kinds.{In}
 use borrow.Fn.PlainCycle.{Measures, is, falls, and}
 use Rattle.repair.proofs.normalize.normalize_node.Reads as normalize-node
@@ -22,10 +37,10 @@ use Rattle.repair.proofs.normalize.+normalize_node+normalize_split.{sta
 use Rattle.repair.proofs.normalize.+normalize_node+normalize_split.Tie.{close}
 
 abbrev μ-normalize-node : Measures 7 normalize-node-kinds.ps ℕ
-μ-normalize-node κs a = ?
+μ-normalize-node κs a = free (a .1 .1 .1 .1 .0 .now) + free (a .1 .1 .1 .1 .0 .now) + 1
 
 abbrev μ-normalize-split : Measures 7 normalize-split-kinds.ps ℕ
-μ-normalize-split κs a = ?
+μ-normalize-split κs a = free (a .1 .1 .1 .1 .0 .now) + free (a .1 .1 .1 .1 .0 .now)
 
 abbrev normalize-node-at : ℕ → In 7 normalize-node-kinds.ps
 normalize-node-at t =
@@ -70,7 +85,7 @@ normalize-node-gone-requires : (t : ℕ) → normalize-node-lts.Need-gone-requir
   normalize-split-below t,
   normalize-split.Post,
 ) (normalize-node-at t) normalize-node.Post
-normalize-node-gone-requires t c κs = ?
+normalize-node-gone-requires t c κs = omega (arith, c .before .before .pre .1 .1)
 
 -- src/normalize.rt:101:9
 normalize-node-returns : (t : ℕ) → normalize-node-lts.Need-returns (
@@ -83,7 +98,12 @@ normalize-node-returns : (t : ℕ) → normalize-node-lts.Need-returns (
   normalize-split-below t,
   normalize-split.Post,
 ) (normalize-node-at t) normalize-node.Post
-normalize-node-returns t c = ?
+normalize-node-returns t c =
+    let b = c .before .before .before in
+    let x = b .args in
+    dropped (x .heads .now) (x .ids .now) (x .shares .now) (x .minima .now) (x .claimed .now) (x .seen .now) (x .acts .now) (x .c) (x .id)
+    (b .pre .1 .0) (b .pre .1 .1) (c .gone .last .0) (c .gone .result .kept) (c .gone .result .counts) (c .gone .ensures)
+    (λ w W f. gone-out (tile (x .id)) w (c .before .before .if1 .taken) f)
 
 -- src/normalize.rt:104:8
 normalize-node-element-copy-out-if2 : (t : ℕ) → normalize-node-lts.Need-element-copy-out-if2 (
@@ -96,7 +116,7 @@ normalize-node-element-copy-out-if2 : (t : ℕ) → normalize-node-lts.Need-elem
   normalize-split-below t,
   normalize-split.Post,
 ) (normalize-node-at t) normalize-node.Post
-normalize-node-element-copy-out-if2 t c = ?
+normalize-node-element-copy-out-if2 t c = omega (arith, c .before .pre .1 .0 .flags)
 
 -- src/normalize.rt:105:9
 normalize-node-gone-requires-2 : (t : ℕ) → normalize-node-lts.Need-gone-requires-2 (
@@ -109,7 +129,7 @@ normalize-node-gone-requires-2 : (t : ℕ) → normalize-node-lts.Need-gone-requ
   normalize-split-below t,
   normalize-split.Post,
 ) (normalize-node-at t) normalize-node.Post
-normalize-node-gone-requires-2 t c κs = ?
+normalize-node-gone-requires-2 t c κs = omega (arith, c .before .before .before .before .pre .1 .1)
 
 -- src/normalize.rt:105:9
 normalize-node-returns-2 : (t : ℕ) → normalize-node-lts.Need-returns-2 (
@@ -122,7 +142,14 @@ normalize-node-returns-2 : (t : ℕ) → normalize-node-lts.Need-returns-2 (
   normalize-split-below t,
   normalize-split.Post,
 ) (normalize-node-at t) normalize-node.Post
-normalize-node-returns-2 t c = ?
+normalize-node-returns-2 t c =
+    let n = c .before .before in
+    let e = n .before .before in
+    let b = e .before in
+    let x = b .args in
+    dropped (x .heads .now) (x .ids .now) (x .shares .now) (x .minima .now) (x .claimed .now) (x .seen .now) (x .acts .now) (x .c) (x .id)
+    (b .pre .1 .0) (b .pre .1 .1) (c .gone2 .last .0) (c .gone2 .result .kept) (c .gone2 .result .counts) (c .gone2 .ensures)
+    (λ w W f. gone-claimed (tile (x .id)) w (e .if1 .left) (ap (λ (fs : List Bool). getD fs (x .id) false) (W .claimed) ∙ n .if2 .taken) f)
 
 -- src/normalize.rt:107:13
 normalize-node-mul-h : (t : ℕ) → normalize-node-lts.Need-mul-h (
@@ -135,7 +162,7 @@ normalize-node-mul-h : (t : ℕ) → normalize-node-lts.Need-mul-h (
   normalize-split-below t,
   normalize-split.Post,
 ) (normalize-node-at t) normalize-node.Post
-normalize-node-mul-h t c = ?
+normalize-node-mul-h t c = search needs
 
 -- src/normalize.rt:107:13
 normalize-node-element-copy-out-h : (t : ℕ) → normalize-node-lts.Need-element-copy-out-h (
@@ -148,7 +175,7 @@ normalize-node-element-copy-out-h : (t : ℕ) → normalize-node-lts.Need-elemen
   normalize-split-below t,
   normalize-split.Post,
 ) (normalize-node-at t) normalize-node.Post
-normalize-node-element-copy-out-h t c = ?
+normalize-node-element-copy-out-h t c = search needs
 
 -- src/normalize.rt:108:16
 normalize-node-array-read-kind : (t : ℕ) → normalize-node-lts.Need-array-read-kind (
@@ -161,7 +188,7 @@ normalize-node-array-read-kind : (t : ℕ) → normalize-node-lts.Need-array-rea
   normalize-split-below t,
   normalize-split.Post,
 ) (normalize-node-at t) normalize-node.Post
-normalize-node-array-read-kind t c = ?
+normalize-node-array-read-kind t c = search needs
 
 -- src/normalize.rt:110:9
 normalize-node-gone-requires-3 : (t : ℕ) → normalize-node-lts.Need-gone-requires-3 (
@@ -174,7 +201,7 @@ normalize-node-gone-requires-3 : (t : ℕ) → normalize-node-lts.Need-gone-requ
   normalize-split-below t,
   normalize-split.Post,
 ) (normalize-node-at t) normalize-node.Post
-normalize-node-gone-requires-3 t c κs = ?
+normalize-node-gone-requires-3 t c κs = omega (arith, c .before .before .before .before .before .before .pre .1 .1)
 
 -- src/normalize.rt:110:9
 normalize-node-returns-3 : (t : ℕ) → normalize-node-lts.Need-returns-3 (
@@ -187,7 +214,18 @@ normalize-node-returns-3 : (t : ℕ) → normalize-node-lts.Need-returns-3 (
   normalize-split-below t,
   normalize-split.Post,
 ) (normalize-node-at t) normalize-node.Post
-normalize-node-returns-3 t c = ?
+normalize-node-returns-3 t c =
+    let k = c .before .before in
+    let n = k .before .before in
+    let e = n .before .before in
+    let b = e .before in
+    let x = b .args in
+    let h = getD (x .heads .now) (x .id) [] in
+    let here = cols (x .heads .now) (x .ids .now) (x .shares .now) (x .minima .now) (x .claimed .now) (x .seen .now) (x .acts .now) (x .c) in
+    dropped (x .heads .now) (x .ids .now) (x .shares .now) (x .minima .now) (x .claimed .now) (x .seen .now) (x .acts .now) (x .c) (x .id)
+    (b .pre .1 .0) (b .pre .1 .1) (c .gone3 .last .0) (c .gone3 .result .kept) (c .gone3 .result .counts) (c .gone3 .ensures)
+    (λ w W f. gone-empty (tile (x .id)) w (e .if1 .left) (ap (λ (fs : List Bool). getD fs (x .id) false) (W .claimed) ∙ n .if2 .left)
+    (slot-is here (b .pre .1 .0) w W (x .id) ∙ ap (λ (i : ℕ). nodeBy i h (getD (x .ids .now) (x .id) []) (getD (x .shares .now) (x .id) []) (getD (x .minima .now) (x .id) [])) (k .if3 .taken)) f)
 
 -- src/normalize.rt:113:9
 normalize-node-pane-step-requires : (t : ℕ) → normalize-node-lts.Need-pane-step-requires (
@@ -200,7 +238,13 @@ normalize-node-pane-step-requires : (t : ℕ) → normalize-node-lts.Need-pane-s
   normalize-split-below t,
   normalize-split.Post,
 ) (normalize-node-at t) normalize-node.Post
-normalize-node-pane-step-requires t c κs = ?
+normalize-node-pane-step-requires t c κs =
+    let k = c .before .before .before .before in
+    let n = k .before .before .before in
+    let e = n .before .before in
+    let b = e .before in
+    let S = b .pre .1 .0 in
+    (record { inside = e .if1 .left; heads = S .heads; flags = S .flags; unclaimed = n .if2 .left; panes = S .panes; listing = b .pre .1 .1 }, k .if4 .taken)
 
 -- src/normalize.rt:113:9
 normalize-node-returns-4 : (t : ℕ) → normalize-node-lts.Need-returns-4 (
@@ -213,7 +257,9 @@ normalize-node-returns-4 : (t : ℕ) → normalize-node-lts.Need-returns-4 (
   normalize-split-below t,
   normalize-split.Post,
 ) (normalize-node-at t) normalize-node.Post
-normalize-node-returns-4 t c = ?
+normalize-node-returns-4 t c =
+    let b = c .before .before .before .before .before .before .before .before .before .before .before in
+    c .pane-step .ensures (b .args .ids .now) (b .args .shares .now) (b .args .minima .now) (b .pre .1 .0)
 
 -- src/normalize.rt:116:9
 normalize-node-group-step-requires : (t : ℕ) → normalize-node-lts.Need-group-step-requires (
@@ -226,7 +272,13 @@ normalize-node-group-step-requires : (t : ℕ) → normalize-node-lts.Need-group
   normalize-split-below t,
   normalize-split.Post,
 ) (normalize-node-at t) normalize-node.Post
-normalize-node-group-step-requires t c κs = ?
+normalize-node-group-step-requires t c κs =
+    let k = c .before .before .before .before .before in
+    let n = k .before .before .before .before in
+    let e = n .before .before in
+    let b = e .before in
+    let S = b .pre .1 .0 in
+    (record { inside = e .if1 .left; heads = S .heads; flags = S .flags; unclaimed = n .if2 .left; panes = S .panes; listing = b .pre .1 .1 }, S .ids, k .if5 .taken, S .slim (b .args .id) .0)
 
 -- src/normalize.rt:116:9
 normalize-node-returns-5 : (t : ℕ) → normalize-node-lts.Need-returns-5 (
@@ -239,7 +291,9 @@ normalize-node-returns-5 : (t : ℕ) → normalize-node-lts.Need-returns-5 (
   normalize-split-below t,
   normalize-split.Post,
 ) (normalize-node-at t) normalize-node.Post
-normalize-node-returns-5 t c = ?
+normalize-node-returns-5 t c =
+    let b = c .before .before .before .before .before .before .before .before .before .before .before .before .before in
+    c .group-step .ensures (b .args .shares .now) (b .args .minima .now) (b .pre .1 .0)
 
 -- src/normalize.rt:118:5
 normalize-node-normalize-split-requires :
@@ -253,7 +307,14 @@ normalize-node-normalize-split-requires :
       normalize-split-below t,
       normalize-split.Post,
     ) (normalize-node-at t) normalize-node.Post
-normalize-node-normalize-split-requires t c κs = ?
+normalize-node-normalize-split-requires t c κs =
+    let k = c .before .before .before .before .before .before .before in
+    let k1 = k .before in
+    let k0 = k1 .before in
+    let n = k0 .before .before in
+    let e = n .before .before in
+    let b = e .before in
+    (omega (arith, b .pre .0), (b .pre .1 .0, b .pre .1 .1, e .if1 .left, n .if2 .left, k0 .if3 .left, k1 .if4 .left, k .if5 .left))
 
 -- src/normalize.rt:86:1
 normalize-node-returns-6 : (t : ℕ) → normalize-node-lts.Need-returns-6 (
@@ -266,15 +327,16 @@ normalize-node-returns-6 : (t : ℕ) → normalize-node-lts.Need-returns-6 (
   normalize-split-below t,
   normalize-split.Post,
 ) (normalize-node-at t) normalize-node.Post
-normalize-node-returns-6 t c = ?
+normalize-node-returns-6 t c = c .normalize-split .ensures
 
 abbrev normalize-split-Inv-loop : normalize-split-lts.InvT-loop
 normalize-split-Inv-loop heads₀ ids₀ shares₀ minima₀ claimed₀ seen₀ acts₀ id o mode children olds least n counts₀ kids₀ j₀ heads ids shares minima claimed seen acts counts kids j =
-    ?
+    (C₀ : Cols) → Ctx (o .rows) C₀ (cols heads₀ ids₀ shares₀ minima₀ claimed₀ seen₀ acts₀ counts₀) id mode (o .given)
+    → Going (o .rows) C₀ (cols heads₀ ids₀ shares₀ minima₀ claimed₀ seen₀ acts₀ counts₀) id mode (o .given) (cols heads ids shares minima claimed seen acts counts) kids j
 
 abbrev normalize-split-μ-loop : normalize-split-lts.MeasureT-loop
 normalize-split-μ-loop heads₀ ids₀ shares₀ minima₀ claimed₀ seen₀ acts₀ id o mode children olds least n counts₀ kids₀ j₀ heads ids shares minima claimed seen acts counts kids j =
-    ?
+    n - j
 
 -- src/normalize.rt:136:9
 normalize-split-open-split-requires : (t : ℕ) → normalize-split-lts.Need-open-split-requires (
@@ -297,7 +359,9 @@ normalize-split-open-split-requires : (t : ℕ) → normalize-split-lts.Need-ope
   split-done-reads.Asked,
   split-done-reads.Learnt,
 ) (normalize-split-at t) normalize-split.Post normalize-split-Inv-loop normalize-split-μ-loop
-normalize-split-open-split-requires t c κs = ?
+normalize-split-open-split-requires t c κs =
+    let p = c .before .before .before .before .before .before .pre .1 in
+    (p .2, p .0 .heads, p .0 .ids, p .0 .shares, p .0 .minima, p .0 .flags, p .0 .slim (c .before .before .before .before .before .before .args .id), p .3, p .1, p .4, p .5, p .6)
 
 -- src/normalize.rt:139:5
 normalize-split-measured-requires : (t : ℕ) → normalize-split-lts.Need-measured-requires (
@@ -320,7 +384,10 @@ normalize-split-measured-requires : (t : ℕ) → normalize-split-lts.Need-measu
   split-done-reads.Asked,
   split-done-reads.Learnt,
 ) (normalize-split-at t) normalize-split.Post normalize-split-Inv-loop normalize-split-μ-loop
-normalize-split-measured-requires t c κs = ?
+normalize-split-measured-requires t c κs =
+    let op = c .before in
+    let b = op .before .before .before .before .before .before .before in
+    op .open-split .ensures (b .args .seen .now) (b .pre .1 .0) .even
 
 -- src/normalize.rt:145:9
 normalize-split-none-requires : (t : ℕ) → normalize-split-lts.Need-none-requires (
@@ -343,7 +410,7 @@ normalize-split-none-requires : (t : ℕ) → normalize-split-lts.Need-none-requ
   split-done-reads.Asked,
   split-done-reads.Learnt,
 ) (normalize-split-at t) normalize-split.Post normalize-split-Inv-loop normalize-split-μ-loop
-normalize-split-none-requires t c κs = ?
+normalize-split-none-requires t c κs = search needs
 
 -- src/normalize.rt:147:5
 normalize-split-loop-holds : (t : ℕ) → normalize-split-lts.Need-loop-holds (
@@ -366,7 +433,7 @@ normalize-split-loop-holds : (t : ℕ) → normalize-split-lts.Need-loop-holds (
   split-done-reads.Asked,
   split-done-reads.Learnt,
 ) (normalize-split-at t) normalize-split.Post normalize-split-Inv-loop normalize-split-μ-loop
-normalize-split-loop-holds t c = ?
+normalize-split-loop-holds t c = λ C₀ X. start X (c .none .result) (c .none .ensures .2) (c .none .ensures .0) (c .none .ensures .1)
 
 -- src/normalize.rt:148:13
 normalize-split-get-requires : (t : ℕ) → normalize-split-lts.Need-get-requires (
@@ -389,7 +456,7 @@ normalize-split-get-requires : (t : ℕ) → normalize-split-lts.Need-get-requir
   split-done-reads.Asked,
   split-done-reads.Learnt,
 ) (normalize-split-at t) normalize-split.Post normalize-split-Inv-loop normalize-split-μ-loop
-normalize-split-get-requires t c κs = ?
+normalize-split-get-requires t c κs = search needs
 
 -- src/normalize.rt:149:13
 normalize-split-normalize-node-requires :
@@ -413,7 +480,18 @@ normalize-split-normalize-node-requires :
       split-done-reads.Asked,
       split-done-reads.Learnt,
     ) (normalize-split-at t) normalize-split.Post normalize-split-Inv-loop normalize-split-μ-loop
-normalize-split-normalize-node-requires t c κs = ?
+normalize-split-normalize-node-requires t c κs =
+    let a = c .before .before .before .before .before .before .before .before .before in
+    let me = a .before .before .before .before .before .before in
+    let op = me .before .before in
+    let b = op .before .before .before .before .before .before .before in
+    let x = b .args in
+    let p = b .pre .1 in
+    let C₀ = cols (x .heads .now) (x .ids .now) (x .shares .now) (x .minima .now) (x .claimed .now) (x .seen .now) (x .acts .now) (x .c) in
+    let X = context (p .0) (p .1) (p .2) (p .3) (op .open-split .ensures (x .seen .now) (p .0)) (me .measured .ensures) in
+    let G = a .loop .inv C₀ X in
+    let i = c .before .before .before .before .before .before .before .before in
+    (omega (arith, b .pre .0, falls-by X G), (G .sized, omega (arith, room-for X G (i .loop-test .taken))))
 
 -- src/normalize.rt:152:12
 normalize-split-is-wide-requires : (t : ℕ) → normalize-split-lts.Need-is-wide-requires (
@@ -436,7 +514,7 @@ normalize-split-is-wide-requires : (t : ℕ) → normalize-split-lts.Need-is-wid
   split-done-reads.Asked,
   split-done-reads.Learnt,
 ) (normalize-split-at t) normalize-split.Post normalize-split-Inv-loop normalize-split-μ-loop
-normalize-split-is-wide-requires t c κs = ?
+normalize-split-is-wide-requires t c κs = search needs
 
 -- src/normalize.rt:153:13
 normalize-split-returns : (t : ℕ) → normalize-split-lts.Need-returns (
@@ -459,7 +537,21 @@ normalize-split-returns : (t : ℕ) → normalize-split-lts.Need-returns (
   split-done-reads.Asked,
   split-done-reads.Learnt,
 ) (normalize-split-at t) normalize-split.Post normalize-split-Inv-loop normalize-split-μ-loop
-normalize-split-returns t c = ?
+normalize-split-returns t c =
+    let a = c .before .before .before .before .before .before .before .before .before .before .before .before .before in
+    let me = a .before .before .before .before .before .before in
+    let op = me .before .before in
+    let b = op .before .before .before .before .before .before .before in
+    let x = b .args in
+    let p = b .pre .1 in
+    let C₀ = cols (x .heads .now) (x .ids .now) (x .shares .now) (x .minima .now) (x .claimed .now) (x .seen .now) (x .acts .now) (x .c) in
+    let X = context (p .0) (p .1) (p .2) (p .3) (op .open-split .ensures (x .seen .now) (p .0)) (me .measured .ensures) in
+    let G = a .loop .inv C₀ X in
+    let w = c .before .before .before in
+    let g = w .before .before .before .before .before .before .before .before in
+    let r = w .normalize-node in
+    let E₁ = cols (r .last .0) (r .last .1 .0) (r .last .1 .1 .0) (r .last .1 .1 .1 .0) (r .last .1 .1 .1 .1 .0) (r .last .1 .1 .1 .1 .1 .0) (r .last .1 .1 .1 .1 .1 .1 .0) (r .result .counts) in
+    too-wide X G (g .before .loop-test .taken) (g .get .result) (g .get .ensures) E₁ (r .result .kept) (r .ensures) (sym (c .before .is-wide .ensures) ∙ c .if1 .taken)
 
 -- src/normalize.rt:158:13
 normalize-split-get-requires-2 : (t : ℕ) → normalize-split-lts.Need-get-requires-2 (
@@ -482,7 +574,7 @@ normalize-split-get-requires-2 : (t : ℕ) → normalize-split-lts.Need-get-requ
   split-done-reads.Asked,
   split-done-reads.Learnt,
 ) (normalize-split-at t) normalize-split.Post normalize-split-Inv-loop normalize-split-μ-loop
-normalize-split-get-requires-2 t c κs = ?
+normalize-split-get-requires-2 t c κs = search needs
 
 -- src/normalize.rt:159:13
 normalize-split-get-requires-3 : (t : ℕ) → normalize-split-lts.Need-get-requires-3 (
@@ -505,7 +597,7 @@ normalize-split-get-requires-3 : (t : ℕ) → normalize-split-lts.Need-get-requ
   split-done-reads.Asked,
   split-done-reads.Learnt,
 ) (normalize-split-at t) normalize-split.Post normalize-split-Inv-loop normalize-split-μ-loop
-normalize-split-get-requires-3 t c κs = ?
+normalize-split-get-requires-3 t c κs = search needs
 
 -- src/normalize.rt:160:13
 normalize-split-place-requires : (t : ℕ) → normalize-split-lts.Need-place-requires (
@@ -528,7 +620,27 @@ normalize-split-place-requires : (t : ℕ) → normalize-split-lts.Need-place-re
   split-done-reads.Asked,
   split-done-reads.Learnt,
 ) (normalize-split-at t) normalize-split.Post normalize-split-Inv-loop normalize-split-μ-loop
-normalize-split-place-requires t c κs = ?
+normalize-split-place-requires t c κs =
+    let a = c .before .before .before .before .before .before .before .before .before .before .before .before .before .before .before .before .before .before .before .before in
+    let me = a .before .before .before .before .before .before in
+    let op = me .before .before in
+    let b = op .before .before .before .before .before .before .before in
+    let x = b .args in
+    let p = b .pre .1 in
+    let C₀ = cols (x .heads .now) (x .ids .now) (x .shares .now) (x .minima .now) (x .claimed .now) (x .seen .now) (x .acts .now) (x .c) in
+    let X = context (p .0) (p .1) (p .2) (p .3) (op .open-split .ensures (x .seen .now) (p .0)) (me .measured .ensures) in
+    let G = a .loop .inv C₀ X in
+    let g3 = c .before .before .before .before .before in
+    let g2 = g3 .before in
+    let e1 = g2 .before in
+    let w = e1 .before .before .before in
+    let g = w .before .before .before .before .before .before .before .before in
+    let r = w .normalize-node in
+    let lt = g .before .loop-test .taken in
+    let narrow = sym (e1 .before .is-wide .ensures) ∙ e1 .if1 .left in
+    let E₁ = cols (r .last .0) (r .last .1 .0) (r .last .1 .1 .0) (r .last .1 .1 .1 .0) (r .last .1 .1 .1 .1 .0) (r .last .1 .1 .1 .1 .1 .0) (r .last .1 .1 .1 .1 .1 .1 .0) (r .result .counts) in
+    let Z = r .ensures .sized in
+    (Z .heads, Z .ids, Z .shares, Z .minima, Z .slim, G .even, omega (arith, Z .listing), not-wide (r .result .kept) narrow)
 
 -- src/normalize.rt:163:13
 normalize-split-returns-2 : (t : ℕ) → normalize-split-lts.Need-returns-2 (
@@ -551,7 +663,33 @@ normalize-split-returns-2 : (t : ℕ) → normalize-split-lts.Need-returns-2 (
   split-done-reads.Asked,
   split-done-reads.Learnt,
 ) (normalize-split-at t) normalize-split.Post normalize-split-Inv-loop normalize-split-μ-loop
-normalize-split-returns-2 t c = ?
+unfolding ofBits
+normalize-split-returns-2 t c =
+    let a = c .before .before .before .before .before .before .before .before .before .before .before .before .before .before .before .before .before .before .before .before .before .before .before in
+    let me = a .before .before .before .before .before .before in
+    let op = me .before .before in
+    let b = op .before .before .before .before .before .before .before in
+    let x = b .args in
+    let p = b .pre .1 in
+    let C₀ = cols (x .heads .now) (x .ids .now) (x .shares .now) (x .minima .now) (x .claimed .now) (x .seen .now) (x .acts .now) (x .c) in
+    let X = context (p .0) (p .1) (p .2) (p .3) (op .open-split .ensures (x .seen .now) (p .0)) (me .measured .ensures) in
+    let G = a .loop .inv C₀ X in
+    let g3 = c .before .before .before .before .before .before .before .before in
+    let g2 = g3 .before in
+    let e1 = g2 .before in
+    let w = e1 .before .before .before in
+    let g = w .before .before .before .before .before .before .before .before in
+    let r = w .normalize-node in
+    let lt = g .before .loop-test .taken in
+    let narrow = sym (e1 .before .is-wide .ensures) ∙ e1 .if1 .left in
+    let E₁ = cols (r .last .0) (r .last .1 .0) (r .last .1 .1 .0) (r .last .1 .1 .1 .0) (r .last .1 .1 .1 .1 .0) (r .last .1 .1 .1 .1 .1 .0) (r .last .1 .1 .1 .1 .1 .1 .0) (r .result .counts) in
+    let q = c .before .before .place in
+    let o = op .open-split .result in
+    too-many X G lt (g .get .result) (g .get .ensures) E₁ (r .result .kept) (r .ensures) narrow (cols (q .last .0) (r .last .1 .0) (r .last .1 .1 .0) (r .last .1 .1 .1 .0) (r .last .1 .1 .1 .1 .0) (r .last .1 .1 .1 .1 .1 .0) (q .last .1 .1 .1 .1 .0) (q .result .counts)) (q .result .kids) (q .result .wide)
+    (q .ensures (r .last .1 .1 .1 .1 .0) (r .last .1 .1 .1 .1 .1 .0)
+    (entry (tile (getD (ids (o .rows .children)) (a .loop .j) 0)) (getD (reals (o .rows .shares)) (a .loop .j) zero-f) (getD (reals (o .rows .minima)) (a .loop .j) zero-f))
+    (sym (g2 .get2 .ensures)) (sym (g3 .get3 .ensures)) (r .ensures .sized)
+    (room-placed X G lt (g .get .result) (g .get .ensures) E₁ (r .result .kept) (r .ensures))) (c .if2 .taken)
 
 -- src/normalize.rt:171:9
 normalize-split-add-j : (t : ℕ) → normalize-split-lts.Need-add-j (
@@ -574,7 +712,17 @@ normalize-split-add-j : (t : ℕ) → normalize-split-lts.Need-add-j (
   split-done-reads.Asked,
   split-done-reads.Learnt,
 ) (normalize-split-at t) normalize-split.Post normalize-split-Inv-loop normalize-split-μ-loop
-normalize-split-add-j t c = ?
+normalize-split-add-j t c =
+    let a = c .before .before .before .before .before .before .before .before .before .before .before .before .before .before .before .before .before .before .before .before .before .before .before .before in
+    let me = a .before .before .before .before .before .before in
+    let op = me .before .before in
+    let b = op .before .before .before .before .before .before .before in
+    let x = b .args in
+    let p = b .pre .1 in
+    let C₀ = cols (x .heads .now) (x .ids .now) (x .shares .now) (x .minima .now) (x .claimed .now) (x .seen .now) (x .acts .now) (x .c) in
+    let X = context (p .0) (p .1) (p .2) (p .3) (op .open-split .ensures (x .seen .now) (p .0)) (me .measured .ensures) in
+    let G = a .loop .inv C₀ X in
+    omega (arith, X .opens .even .few, c .before .before .before .before .before .before .before .before .before .before .before .before .before .before .before .before .before .before .before .before .before .before .before .loop-test .taken)
 
 -- src/normalize.rt:147:5
 normalize-split-loop-less : (t : ℕ) → normalize-split-lts.Need-loop-less (
@@ -597,7 +745,7 @@ normalize-split-loop-less : (t : ℕ) → normalize-split-lts.Need-loop-less (
   split-done-reads.Asked,
   split-done-reads.Learnt,
 ) (normalize-split-at t) normalize-split.Post normalize-split-Inv-loop normalize-split-μ-loop
-normalize-split-loop-less t c = ?
+normalize-split-loop-less t c = omega (arith, c .before .before .before .before .before .before .before .before .before .before .before .before .before .before .before .before .before .before .before .before .before .before .before .loop-test .taken)
 
 -- src/normalize.rt:147:5
 normalize-split-loop-again : (t : ℕ) → normalize-split-lts.Need-loop-again (
@@ -620,7 +768,27 @@ normalize-split-loop-again : (t : ℕ) → normalize-split-lts.Need-loop-again (
   split-done-reads.Asked,
   split-done-reads.Learnt,
 ) (normalize-split-at t) normalize-split.Post normalize-split-Inv-loop normalize-split-μ-loop
-normalize-split-loop-again t c = ?
+unfolding ofBits
+normalize-split-loop-again t c =
+    λ C₀ X.
+    let a = c .before .before .before .before .before .before .before .before .before .before .before .before .before .before .before .before .before .before .before .before .before .before .before .before in
+    let G = a .loop .inv C₀ X in
+    let g3 = c .before .before .before .before .before .before .before .before .before in
+    let g2 = g3 .before in
+    let e1 = g2 .before in
+    let w = e1 .before .before .before in
+    let g = w .before .before .before .before .before .before .before .before in
+    let r = w .normalize-node in
+    let lt = g .before .loop-test .taken in
+    let narrow = sym (e1 .before .is-wide .ensures) ∙ e1 .if1 .left in
+    let E₁ = cols (r .last .0) (r .last .1 .0) (r .last .1 .1 .0) (r .last .1 .1 .1 .0) (r .last .1 .1 .1 .1 .0) (r .last .1 .1 .1 .1 .1 .0) (r .last .1 .1 .1 .1 .1 .1 .0) (r .result .counts) in
+    let q = c .before .before .before .place in
+    let o = a .before .before .before .before .before .before .before .before .open-split .result in
+    one-more X G lt (g .get .result) (g .get .ensures) E₁ (r .result .kept) (r .ensures) narrow (cols (q .last .0) (r .last .1 .0) (r .last .1 .1 .0) (r .last .1 .1 .1 .0) (r .last .1 .1 .1 .1 .0) (r .last .1 .1 .1 .1 .1 .0) (q .last .1 .1 .1 .1 .0) (q .result .counts)) (q .result .kids) (q .result .wide)
+    (q .ensures (r .last .1 .1 .1 .1 .0) (r .last .1 .1 .1 .1 .1 .0)
+    (entry (tile (getD (ids (o .rows .children)) (a .loop .j) 0)) (getD (reals (o .rows .shares)) (a .loop .j) zero-f) (getD (reals (o .rows .minima)) (a .loop .j) zero-f))
+    (sym (g2 .get2 .ensures)) (sym (g3 .get3 .ensures)) (r .ensures .sized)
+    (room-placed X G lt (g .get .result) (g .get .ensures) E₁ (r .result .kept) (r .ensures))) (c .before .if2 .left)
 
 -- src/normalize.rt:174:5
 normalize-split-split-done-requires : (t : ℕ) → normalize-split-lts.Need-split-done-requires (
@@ -643,7 +811,18 @@ normalize-split-split-done-requires : (t : ℕ) → normalize-split-lts.Need-spl
   split-done-reads.Asked,
   split-done-reads.Learnt,
 ) (normalize-split-at t) normalize-split.Post normalize-split-Inv-loop normalize-split-μ-loop
-normalize-split-split-done-requires t c κs = ?
+normalize-split-split-done-requires t c κs =
+    let a = c .before .before .before .before .before .before .before in
+    let me = a .before .before .before .before .before .before in
+    let op = me .before .before in
+    let b = op .before .before .before .before .before .before .before in
+    let x = b .args in
+    let p = b .pre .1 in
+    let C₀ = cols (x .heads .now) (x .ids .now) (x .shares .now) (x .minima .now) (x .claimed .now) (x .seen .now) (x .acts .now) (x .c) in
+    let X = context (p .0) (p .1) (p .2) (p .3) (op .open-split .ensures (x .seen .now) (p .0)) (me .measured .ensures) in
+    let G = a .loop .inv C₀ X in
+    let Z = G .sized in
+    (Z .heads, Z .ids, Z .shares, Z .minima, p .2, G .even, X .opens .few, omega (arith, Z .listing))
 
 -- src/normalize.rt:122:1
 normalize-split-returns-3 : (t : ℕ) → normalize-split-lts.Need-returns-3 (
@@ -666,7 +845,21 @@ normalize-split-returns-3 : (t : ℕ) → normalize-split-lts.Need-returns-3 (
   split-done-reads.Asked,
   split-done-reads.Learnt,
 ) (normalize-split-at t) normalize-split.Post normalize-split-Inv-loop normalize-split-μ-loop
-normalize-split-returns-3 t c = ?
+normalize-split-returns-3 t c =
+    let a = c .before .before .before .before .before .before .before .before in
+    let me = a .before .before .before .before .before .before in
+    let op = me .before .before in
+    let b = op .before .before .before .before .before .before .before in
+    let x = b .args in
+    let p = b .pre .1 in
+    let C₀ = cols (x .heads .now) (x .ids .now) (x .shares .now) (x .minima .now) (x .claimed .now) (x .seen .now) (x .acts .now) (x .c) in
+    let X = context (p .0) (p .1) (p .2) (p .3) (op .open-split .ensures (x .seen .now) (p .0)) (me .measured .ensures) in
+    let G = a .loop .inv C₀ X in
+    let r = c .split-done in
+    let l = a .loop in
+    all-done X G (c .before .before .before .before .before .before .before .loop-test .left)
+    (cols (r .last .0) (r .last .1 .0) (r .last .1 .1 .0) (r .last .1 .1 .1 .0) (l .claimed) (l .seen) (r .last .1 .1 .1 .1 .0) (r .result .counts)) (r .result .kept)
+    (r .ensures (l .claimed) (l .seen) (G .sized) (room-end X G))
 
 pub +normalize-node+normalize-split-spec : {M : Type 1} → statement M
 +normalize-node+normalize-split-spec =
