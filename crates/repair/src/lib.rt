@@ -4,6 +4,9 @@
 // lengths of its ids, shares and minima.
 use rules::model::Ids;
 use rules::model::Reals;
+use rules::model::RepairAction;
+use rules::model::TileTree;
+use rules::refusal::Answer;
 
 pub mod actions;
 pub mod leaves;
@@ -51,4 +54,22 @@ pub struct Opened {
     pub given: Reals,
     pub rows: Kids,
     pub counts: Counts,
+}
+
+// One action of a repair. A struct, since an array of enums cannot be a field.
+pub struct Listed {
+    pub action: RepairAction,
+}
+
+// The actions of a repair, in order: the Rust's RepairReport. 1,300 places always suffice.
+pub struct Actions {
+    pub at: [Listed; 1300],
+    pub len: usize,
+}
+
+// What a repair answers: the repaired tree and what was done; or the tree as given, and nothing.
+pub struct Repairing {
+    pub answer: Answer,
+    pub tree: TileTree,
+    pub actions: Actions,
 }
