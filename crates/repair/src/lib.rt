@@ -62,7 +62,7 @@ pub struct Listed {
 }
 
 // The actions of a repair, in order: the Rust's RepairReport. 1,300 places always suffice.
-pub struct Actions {
+pub struct Report {
     pub at: [Listed; 1300],
     pub len: usize,
 }
@@ -71,5 +71,5 @@ pub struct Actions {
 pub struct Repairing {
     pub answer: Answer,
     pub tree: TileTree,
-    pub actions: Actions,
+    pub actions: Report,
 }
