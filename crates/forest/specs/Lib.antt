@@ -11,3 +11,4 @@ pub mod Actions
 pub mod Fuel
 pub mod Wide
 pub mod Sweep
+pub mod Equal
