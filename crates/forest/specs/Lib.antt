@@ -12,3 +12,6 @@ pub mod Fuel
 pub mod Wide
 pub mod Sweep
 pub mod Equal
+pub mod Quiet
+pub mod SoundIs
+pub mod Depth
