@@ -1,0 +1,4 @@
+-- What the contracts of the spec reader cite, and the laws that its proofs cite.
+pub mod Row
+pub mod Bytes
+pub mod RowLaws

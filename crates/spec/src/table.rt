@@ -1,0 +1,1 @@
+// The table's four sections.
