@@ -36,7 +36,7 @@ number-four s i x y h e f =
     omega (arith, a, b, c, d, p)
 
 inner : {A : Type 0} (i w n : ℕ) (l : List A) → i + w ≤ n → take w (drop i (take n l)) ≡ take w (drop i l)
-inner zero w n l h = take-take w n l h
+inner zero w n l h = take-take w n l (omega arith)
 inner (suc i) w zero l h = absurd (omega arith)
 inner (suc i) w (suc n) [] h = refl
 inner (suc i) w (suc n) (x ∷ l) h = inner i w n l (omega arith)

@@ -1,17 +1,20 @@
 -- The rules of a row by each test of the code. Assumes nothing.
-use mathlib.Core.Path.{_≡_, refl, sym, ap, _∙_}
+use mathlib.Core.Path.{_≡_, refl, sym, ap, subst, _∙_}
 use mathlib.Core.Bool.{Bool, true, false, _&&_}
 use mathlib.Core.List.{List, [], _∷_}
 use mathlib.Core.Option.{Option, none, some}
 use Prim.Native.Nat.{ℕ, zero, suc, _+_, _*_, _≤_, _<_}
 use native.Mathlib.Omega.{arith}
+use lib.Dec.{eqb}
+use borrow.Author.Tests.{eq-eqb, ne-eqb}
 use lib.ListN.{length, getD, take, drop}
 use lib.Seq.{drop-drop, take-take}
 use Rattle.rules.specs.Table.{Row, paneRow, tabsRow, splitRow, littleEndian, numberAt, barOf, axisOf, paneIf, tabsIf, splitIf, rowBy, rowOf}
 use Rattle.rules.specs.declared.model.Axis.{Axis}
 use Rattle.rules.specs.declared.model.TabBarPlacement.{TabBarPlacement}
-use Rattle.spec.specs.Row.{rowOr, Small}
-use Rattle.spec.specs.Bytes.{within}
+use Rattle.spec.specs.Row.{readIs, rowOr, Small, ReadAt}
+use Rattle.spec.specs.declared.row.RowRead.{RowRead}
+use Rattle.spec.specs.Bytes.{within, number-one}
 
 pub axis-rest : (m : ℕ) → (m ≡ 0 → ⊥) → (m ≡ 1 → ⊥) → none ≡ axisOf m
 axis-rest zero a b = absurd (a refl)
@@ -47,8 +50,8 @@ small-split none n s m h i j = record { panes = omega arith; shares = omega arit
 
 -- numbers of 16 bits make a small row
 pub small-by : (k mode n s m : ℕ) → n < 65536 → s < 65536 → m < 65536 → Small (rowOr (rowBy k mode n s m))
-small-by zero mode n s m h i j = small-pane _
-small-by (suc zero) mode n s m h i j = small-tabs _ (barOf mode) n s h
+small-by zero mode n s m h i j = small-pane (eqb mode 0 && eqb n 1 && eqb s 0 && eqb m 0)
+small-by (suc zero) mode n s m h i j = small-tabs (eqb m 0) (barOf mode) n s h
 small-by (suc (suc zero)) mode n s m h i j = small-split (axisOf mode) n s m h i j
 small-by (suc (suc (suc k))) mode n s m h i j = record { panes = omega arith; shares = omega arith; minima = omega arith; children = omega arith }
 
@@ -63,3 +66,46 @@ row-of bs at k mode n s m a b c d e =
     ((c ∙ sym (within 2 2 8 at bs (omega arith))) j)
     ((d ∙ sym (within 4 2 8 at bs (omega arith))) j)
     ((e ∙ sym (within 6 2 8 at bs (omega arith))) j)
+
+-- ---- a pane's row, test by test
+
+pub pane-mode : (a b c d : ℕ) → (a ≡ 0 → ⊥) → none ≡ rowBy 0 a b c d
+pane-mode a b c d h = ap (λ (x : Bool). paneIf (x && eqb b 1 && eqb c 0 && eqb d 0)) (sym (ne-eqb a 0 h))
+
+pub pane-count : (a b c d : ℕ) → a ≡ 0 → (b ≡ 1 → ⊥) → none ≡ rowBy 0 a b c d
+pane-count a b c d e h = λ j. paneIf (sym (eq-eqb a 0 e) j && sym (ne-eqb b 1 h) j && eqb c 0 && eqb d 0)
+
+pub pane-extra : (a b c d : ℕ) → a ≡ 0 → b ≡ 1 → (c ≡ 0 → ⊥) → none ≡ rowBy 0 a b c d
+pane-extra a b c d e f h = λ j. paneIf (sym (eq-eqb a 0 e) j && sym (eq-eqb b 1 f) j && sym (ne-eqb c 0 h) j && eqb d 0)
+
+pub pane-minima : (a b c d : ℕ) → a ≡ 0 → b ≡ 1 → c ≡ 0 → (d ≡ 0 → ⊥) → none ≡ rowBy 0 a b c d
+pane-minima a b c d e f g h = λ j. paneIf (sym (eq-eqb a 0 e) j && sym (eq-eqb b 1 f) j && sym (eq-eqb c 0 g) j && sym (ne-eqb d 0 h) j)
+
+pub pane-good : (a b c d : ℕ) → a ≡ 0 → b ≡ 1 → c ≡ 0 → d ≡ 0 → some paneRow ≡ rowBy 0 a b c d
+pane-good a b c d e f g h = λ j. paneIf (sym (eq-eqb a 0 e) j && sym (eq-eqb b 1 f) j && sym (eq-eqb c 0 g) j && sym (eq-eqb d 0 h) j)
+
+-- ---- a group's and a split's
+
+pub tabs-minima : (a n x m : ℕ) → (m ≡ 0 → ⊥) → none ≡ rowBy 1 a n x m
+tabs-minima a n x m h = ap (λ (t : Bool). tabsIf t (barOf a) n x) (sym (ne-eqb m 0 h))
+
+pub tabs-good : (b : TabBarPlacement) (a n x m : ℕ) → m ≡ 0 → some b ≡ barOf a → some (tabsRow b n x) ≡ rowBy 1 a n x m
+tabs-good b a n x m e f = λ j. tabsIf (sym (eq-eqb m 0 e) j) (f j) n x
+
+pub tabs-bad : (a n x m : ℕ) → m ≡ 0 → none ≡ barOf a → none ≡ rowBy 1 a n x m
+tabs-bad a n x m e f = λ j. tabsIf (sym (eq-eqb m 0 e) j) (f j) n x
+
+pub split-good : (y : Axis) (a n x m : ℕ) → some y ≡ axisOf a → some (splitRow y n x m) ≡ rowBy 2 a n x m
+split-good y a n x m f = ap (λ (o : Option Axis). splitIf o n x m) f
+
+pub split-bad : (a n x m : ℕ) → none ≡ axisOf a → none ≡ rowBy 2 a n x m
+split-bad a n x m f = ap (λ (o : Option Axis). splitIf o n x m) f
+
+-- the whole of a row that is read
+pub row-read : (bs : List ℕ) (at k mode n s m : ℕ) (r : RowRead) → at + 8 ≤ length bs → k ≡ getD bs at 0 → mode ≡ getD bs (at + 1) 0 → n ≡ numberAt 2 (at + 2) bs
+    → s ≡ numberAt 2 (at + 4) bs → m ≡ numberAt 2 (at + 6) bs → n < 65536 → s < 65536 → m < 65536 → readIs r ≡ rowBy k mode n s m → ReadAt bs at r
+row-read bs at k mode n s m r h a b c d e p q t w =
+    record {
+      is = w ∙ row-of bs at k mode n s m (number-one bs at k (omega arith) a) (number-one bs (at + 1) mode (omega arith) b) c d e;
+      small = subst (λ (o : Option Row). Small (rowOr o)) (sym w) (small-by k mode n s m p q t);
+    }
