@@ -2,3 +2,5 @@
 pub mod Row
 pub mod Bytes
 pub mod RowLaws
+pub mod Sections
+pub mod SectionLaws
