@@ -4,3 +4,6 @@ pub mod Bytes
 pub mod RowLaws
 pub mod Sections
 pub mod SectionLaws
+pub mod Rows
+pub mod RowsLaws
+pub mod RowsLoop
