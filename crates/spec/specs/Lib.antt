@@ -7,3 +7,4 @@ pub mod SectionLaws
 pub mod Rows
 pub mod RowsLaws
 pub mod RowsLoop
+pub mod Entries

@@ -6,6 +6,7 @@ use mathlib.Core.Option.{Option, none, some}
 use Prim.Native.Nat.{ℕ, zero, suc, _+_, _≤_}
 use lib.Dec.{eqb}
 use lib.ListN.{length, drop}
+use lib.Ieee.{Float}
 use Rattle.rules.specs.Table.{Row, paneRow, rowOf, panesUsed, sharesUsed, minimaUsed, childrenUsed, sumRows, Table, number, real, readTable}
 use Rattle.spec.specs.Row.{rowOr}
 use Rattle.spec.specs.Sections.{chunksAt, Placed}
@@ -21,13 +22,16 @@ rowsAt bs t = map rowFrom (chunksAt bs (t .rows) (t .«row_count»))
 abbrev pub panesAt : List ℕ → Places → List ℕ
 panesAt bs t = map number (chunksAt bs (t .panes) (t .«pane_count»))
 
+abbrev pub realsAt : List ℕ → ℕ → ℕ → List Float
+realsAt bs p n = map real (chunksAt bs p n)
+
 abbrev pub tableOf : List ℕ → Places → Table
 tableOf bs t =
     record {
       rows = rowsAt bs t;
       panes = panesAt bs t;
-      shares = map real (chunksAt bs (t .shares) (t .«share_count»));
-      minima = map real (chunksAt bs (t .minima) (t .«minimum_count»));
+      shares = realsAt bs (t .shares) (t .«share_count»);
+      minima = realsAt bs (t .minima) (t .«minimum_count»);
     }
 
 -- each section is used up exactly

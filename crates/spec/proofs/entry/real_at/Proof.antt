@@ -1,0 +1,31 @@
+use Rattle.spec.specs.Entries.{real-entry}
+use borrow.Author.Needs.{needs}
+use Rattle.spec.proofs.entry.real_at.Statement.{statement}
+use Rattle.spec.proofs.entry.real_at.Tie as tie
+use Rattle.spec.proofs.entry.real_at.Reads as reads
+use Rattle.spec.proofs.entry.real_at.Lts as lts
+use Rattle.number.proofs.decode.Reads as decode-reads
+use Rattle.number.proofs.word.Reads as word-reads
+
+-- src/entry.rt:43:44
+mul-word : tie.Need-mul-word
+mul-word c = search needs
+
+-- src/entry.rt:43:36
+add-word : tie.Need-add-word
+add-word c = search needs
+
+-- src/entry.rt:43:20
+word-requires : tie.Need-word-requires
+word-requires c κs = search needs
+
+-- src/entry.rt:43:5
+decode-requires : tie.Need-decode-requires
+decode-requires c κs = search needs
+
+-- src/entry.rt:39:1
+returns : tie.Need-returns
+returns c = real-entry (c .before .before .before .args .b .now) (c .before .before .before .args .start) (c .before .before .before .args .n) (c .before .before .before .args .i) (c .before .before .before .pre .1) (c .before .word .result) (c .decode .result) (c .before .word .ensures) (c .decode .ensures)
+
+pub real-at-spec : {M : Type 1} → statement M
+real-at-spec = tie.close (tie.spec mul-word add-word word-requires decode-requires returns)

@@ -1,0 +1,67 @@
+use mathlib.Core.Path.{ap, sym, _∙_}
+use Prim.Native.Nat.{_-_}
+use native.Mathlib.Omega.{arith}
+use borrow.Author.Needs.{needs}
+use Rattle.rules.specs.Spec.{wideRow}
+use Rattle.rules.specs.Table.{paneRow}
+use Rattle.spec.specs.Rows.{rowFrom, rowsAt}
+use Rattle.spec.specs.Entries.{length-entries, Searching, search-start, search-found, search-more, search-end}
+use Rattle.spec.proofs.entry.too_wide.Statement.{statement}
+use Rattle.spec.proofs.entry.too_wide.Tie as tie
+use Rattle.spec.proofs.entry.too_wide.Reads as reads
+use Rattle.spec.proofs.entry.too_wide.Lts as lts
+use Rattle.spec.proofs.entry.known_row.Reads as known-row-reads
+use Rattle.spec.proofs.row.is_wide.Reads as is-wide-reads
+
+abbrev Inv-loop : tie.InvT-loop
+Inv-loop b t n i₀ i = Searching wideRow (rowsAt b t) n i
+
+abbrev μ-loop : tie.MeasureT-loop
+μ-loop b t n i₀ i = n - i
+
+-- src/entry.rt:53:5
+loop-holds : tie.Need-loop-holds Inv-loop μ-loop
+loop-holds c = search-start wideRow (rowsAt (c .before .args .b .now) (c .before .args .t)) ((c .before .args .t) .«row_count») (length-entries (c .before .args .b .now) ((c .before .args .t) .rows) ((c .before .args .t) .«row_count») rowFrom)
+
+-- src/entry.rt:54:20
+known-row-requires : tie.Need-known-row-requires Inv-loop μ-loop
+known-row-requires c κs = (c .before .before .before .pre, c .loop-test .taken)
+
+-- src/entry.rt:54:12
+is-wide-requires : tie.Need-is-wide-requires Inv-loop μ-loop
+is-wide-requires c κs = search needs
+
+-- src/entry.rt:55:13
+returns : tie.Need-returns Inv-loop μ-loop
+returns c = search-found wideRow (rowsAt (c .before .before .before .before .before .before .args .b .now) (c .before .before .before .before .before .before .args .t)) ((c .before .before .before .before .before .before .args .t) .«row_count») (c .before .before .before .before .loop .i) paneRow (c .before .before .before .before .loop .inv) (c .before .before .before .loop-test .taken) (sym (c .if1 .taken) ∙ c .before .is-wide .ensures ∙ ap wideRow (c .before .before .known-row .ensures))
+
+-- src/entry.rt:57:9
+add-i : tie.Need-add-i Inv-loop μ-loop
+add-i c = omega (arith, c .before .before .before .loop-test .taken, c .before .before .before .before .before .before .pre .rows .few)
+
+-- src/entry.rt:53:5
+loop-less : tie.Need-loop-less Inv-loop μ-loop
+loop-less c = omega (arith, c .before .before .before .loop-test .taken)
+
+-- src/entry.rt:53:5
+loop-again : tie.Need-loop-again Inv-loop μ-loop
+loop-again c = search-more wideRow (rowsAt (c .before .before .before .before .before .before .args .b .now) (c .before .before .before .before .before .before .args .t)) ((c .before .before .before .before .before .before .args .t) .«row_count») (c .before .before .before .before .loop .i) paneRow (c .before .before .before .before .loop .inv) (c .before .before .before .loop-test .taken) (sym (c .if1 .left) ∙ c .before .is-wide .ensures ∙ ap wideRow (c .before .before .known-row .ensures))
+
+-- src/entry.rt:47:1
+returns-2 : tie.Need-returns-2 Inv-loop μ-loop
+returns-2 c = search-end wideRow (rowsAt (c .before .before .before .args .b .now) (c .before .before .before .args .t)) ((c .before .before .before .args .t) .«row_count») (c .before .loop .i) (c .before .loop .inv) (c .loop-test .left)
+
+pub too-wide-spec : {M : Type 1} → statement M
+too-wide-spec =
+    tie.close
+    (tie.spec
+    Inv-loop
+    μ-loop
+    loop-holds
+    known-row-requires
+    is-wide-requires
+    returns
+    add-i
+    loop-less
+    loop-again
+    returns-2)
