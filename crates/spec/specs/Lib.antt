@@ -8,3 +8,7 @@ pub mod Rows
 pub mod RowsLaws
 pub mod RowsLoop
 pub mod Entries
+pub mod Checks
+pub mod CheckLaws
+pub mod Walk
+pub mod SplitLaws

@@ -5,3 +5,4 @@ pub mod entry;
 pub mod preorder;
 pub mod row;
 pub mod table;
+pub mod validate;

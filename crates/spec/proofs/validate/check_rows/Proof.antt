@@ -1,0 +1,111 @@
+use mathlib.Core.Path.{refl, ap, sym, _∙_}
+use Prim.Native.Nat.{_-_}
+use native.Mathlib.Omega.{arith}
+use borrow.Author.Needs.{needs}
+use Rattle.spec.specs.Row.{rowIs}
+use Rattle.spec.specs.Rows.{rowFrom, tableOf}
+use Rattle.spec.specs.Entries.{length-entries}
+use Rattle.spec.specs.Checks.{checkedAs}
+use Rattle.spec.specs.Walk.{Along, along-start, along-more, along-room}
+use Rattle.spec.specs.SplitLaws.{Checking, checking-bad, checking-more, checking-end}
+use Rattle.spec.proofs.validate.check_rows.Statement.{statement}
+use Rattle.spec.proofs.validate.check_rows.Tie as tie
+use Rattle.spec.proofs.validate.check_rows.Reads as reads
+use Rattle.spec.proofs.validate.check_rows.Lts as lts
+use Rattle.spec.proofs.entry.known_row.Reads as known-row-reads
+use Rattle.spec.proofs.row.minima_used.Reads as minima-used-reads
+use Rattle.spec.proofs.row.panes_used.Reads as panes-used-reads
+use Rattle.spec.proofs.row.shares_used.Reads as shares-used-reads
+use Rattle.spec.proofs.validate.check_row.Reads as check-row-reads
+
+abbrev Inv-loop : tie.InvT-loop
+Inv-loop b t n i₀ p₀ s₀ m₀ i p s m = Along (tableOf b t) i p s m × Checking (tableOf b t) i p s m
+
+abbrev μ-loop : tie.MeasureT-loop
+μ-loop b t n i₀ p₀ s₀ m₀ i p s m = n - i
+
+-- src/validate.rt:171:5
+loop-holds : tie.Need-loop-holds Inv-loop μ-loop
+loop-holds c = (along-start (tableOf (c .before .args .b .now) (c .before .args .t)) (c .before .pre .1), refl)
+
+-- src/validate.rt:172:13
+known-row-requires : tie.Need-known-row-requires Inv-loop μ-loop
+known-row-requires c κs = (c .before .before .before .pre .0, c .loop-test .taken)
+
+-- src/validate.rt:173:34
+check-row-requires : tie.Need-check-row-requires Inv-loop μ-loop
+check-row-requires c κs = (c .before .before .before .before .pre .0, (along-room (c .before .before .before .before .args .b .now) (c .before .before .before .before .args .t) (c .before .before .loop .i) (c .before .before .loop .p) (c .before .before .loop .s) (c .before .before .loop .m) (rowIs (c .known-row .result)) (c .before .before .loop .inv .0) (c .before .loop-test .taken) (c .known-row .ensures)))
+
+-- src/validate.rt:173:29
+enum-known-e : tie.Need-enum-known-e Inv-loop μ-loop
+enum-known-e c = search needs
+
+-- src/validate.rt:174:13
+returns : tie.Need-returns Inv-loop μ-loop
+returns c = checking-bad (tableOf (c .before .before .before .before .before .before .before .before .args .b .now) (c .before .before .before .before .before .before .before .before .args .t)) (c .before .before .before .before .before .before .loop .i) (c .before .before .before .before .before .before .loop .p) (c .before .before .before .before .before .before .loop .s) (c .before .before .before .before .before .before .loop .m) (c .before .before .before .before .before .before .loop .inv .1) (let q = length-entries (c .before .before .before .before .before .before .before .before .args .b .now) ((c .before .before .before .before .before .before .before .before .args .t) .rows) ((c .before .before .before .before .before .before .before .before .args .t) .«row_count») rowFrom in omega (arith, c .before .before .before .before .before .loop-test .taken)) (rowIs (c .before .before .before .before .known-row .result)) (c .before .before .before .before .known-row .ensures) (c .before .e .given .0 .0) (ap checkedAs (sym (c .before .e .given .1)) ∙ c .before .before .before .check-row .ensures)
+
+enum-told : tie.Need-enum-told Inv-loop μ-loop
+enum-told c = search needs
+
+-- src/validate.rt:176:14
+panes-used-requires : tie.Need-panes-used-requires Inv-loop μ-loop
+panes-used-requires c κs = search needs
+
+-- src/validate.rt:176:9
+add-p : tie.Need-add-p Inv-loop μ-loop
+add-p c = omega (arith, (along-room (c .before .before .before .before .before .before .before .before .args .b .now) (c .before .before .before .before .before .before .before .before .args .t) (c .before .before .before .before .before .before .loop .i) (c .before .before .before .before .before .before .loop .p) (c .before .before .before .before .before .before .loop .s) (c .before .before .before .before .before .before .loop .m) (rowIs (c .before .before .before .before .known-row .result)) (c .before .before .before .before .before .before .loop .inv .0) (c .before .before .before .before .before .loop-test .taken) (c .before .before .before .before .known-row .ensures)) .panes, c .panes-used .ensures, c .before .before .before .before .before .before .before .before .pre .0 .panes .few)
+
+-- src/validate.rt:177:14
+shares-used-requires : tie.Need-shares-used-requires Inv-loop μ-loop
+shares-used-requires c κs = search needs
+
+-- src/validate.rt:177:9
+add-s : tie.Need-add-s Inv-loop μ-loop
+add-s c = omega (arith, (along-room (c .before .before .before .before .before .before .before .before .before .args .b .now) (c .before .before .before .before .before .before .before .before .before .args .t) (c .before .before .before .before .before .before .before .loop .i) (c .before .before .before .before .before .before .before .loop .p) (c .before .before .before .before .before .before .before .loop .s) (c .before .before .before .before .before .before .before .loop .m) (rowIs (c .before .before .before .before .before .known-row .result)) (c .before .before .before .before .before .before .before .loop .inv .0) (c .before .before .before .before .before .before .loop-test .taken) (c .before .before .before .before .before .known-row .ensures)) .shares, c .shares-used .ensures, c .before .before .before .before .before .before .before .before .before .pre .0 .shares .few)
+
+-- src/validate.rt:178:14
+minima-used-requires : tie.Need-minima-used-requires Inv-loop μ-loop
+minima-used-requires c κs = search needs
+
+-- src/validate.rt:178:9
+add-m : tie.Need-add-m Inv-loop μ-loop
+add-m c = omega (arith, (along-room (c .before .before .before .before .before .before .before .before .before .before .args .b .now) (c .before .before .before .before .before .before .before .before .before .before .args .t) (c .before .before .before .before .before .before .before .before .loop .i) (c .before .before .before .before .before .before .before .before .loop .p) (c .before .before .before .before .before .before .before .before .loop .s) (c .before .before .before .before .before .before .before .before .loop .m) (rowIs (c .before .before .before .before .before .before .known-row .result)) (c .before .before .before .before .before .before .before .before .loop .inv .0) (c .before .before .before .before .before .before .before .loop-test .taken) (c .before .before .before .before .before .before .known-row .ensures)) .minima, c .minima-used .ensures, c .before .before .before .before .before .before .before .before .before .before .pre .0 .minima .few)
+
+-- src/validate.rt:179:9
+add-i : tie.Need-add-i Inv-loop μ-loop
+add-i c = omega (arith, c .before .before .before .before .before .before .before .loop-test .taken, c .before .before .before .before .before .before .before .before .before .before .pre .0 .rows .few)
+
+-- src/validate.rt:171:5
+loop-less : tie.Need-loop-less Inv-loop μ-loop
+loop-less c = omega (arith, c .before .before .before .before .before .before .before .loop-test .taken)
+
+-- src/validate.rt:171:5
+loop-again : tie.Need-loop-again Inv-loop μ-loop
+loop-again c = (along-more (tableOf (c .before .before .before .before .before .before .before .before .before .before .args .b .now) (c .before .before .before .before .before .before .before .before .before .before .args .t)) (c .before .before .before .before .before .before .before .before .loop .i) (c .before .before .before .before .before .before .before .before .loop .p) (c .before .before .before .before .before .before .before .before .loop .s) (c .before .before .before .before .before .before .before .before .loop .m) (rowIs (c .before .before .before .before .before .before .known-row .result)) (c .before .before .panes-used .result) (c .before .shares-used .result) (c .minima-used .result) (c .before .before .before .before .before .before .before .before .loop .inv .0) (let q = length-entries (c .before .before .before .before .before .before .before .before .before .before .args .b .now) ((c .before .before .before .before .before .before .before .before .before .before .args .t) .rows) ((c .before .before .before .before .before .before .before .before .before .before .args .t) .«row_count») rowFrom in omega (arith, c .before .before .before .before .before .before .before .loop-test .taken)) (c .before .before .before .before .before .before .known-row .ensures) (c .before .before .panes-used .ensures) (c .before .shares-used .ensures) (c .minima-used .ensures), checking-more (tableOf (c .before .before .before .before .before .before .before .before .before .before .args .b .now) (c .before .before .before .before .before .before .before .before .before .before .args .t)) (c .before .before .before .before .before .before .before .before .loop .i) (c .before .before .before .before .before .before .before .before .loop .p) (c .before .before .before .before .before .before .before .before .loop .s) (c .before .before .before .before .before .before .before .before .loop .m) (c .before .before .before .before .before .before .before .before .loop .inv .1) (let q = length-entries (c .before .before .before .before .before .before .before .before .before .before .args .b .now) ((c .before .before .before .before .before .before .before .before .before .before .args .t) .rows) ((c .before .before .before .before .before .before .before .before .before .before .args .t) .«row_count») rowFrom in omega (arith, c .before .before .before .before .before .before .before .loop-test .taken)) (rowIs (c .before .before .before .before .before .before .known-row .result)) (c .before .before .before .before .before .before .known-row .ensures) (c .before .before .panes-used .result) (c .before .shares-used .result) (c .minima-used .result) (c .before .before .panes-used .ensures) (c .before .shares-used .ensures) (c .minima-used .ensures) (ap checkedAs (sym (c .before .before .before .enum-told .given .1)) ∙ c .before .before .before .before .before .check-row .ensures))
+
+-- src/validate.rt:162:1
+returns-2 : tie.Need-returns-2 Inv-loop μ-loop
+returns-2 c = checking-end (tableOf (c .before .before .before .args .b .now) (c .before .before .before .args .t)) (c .before .loop .i) (c .before .loop .p) (c .before .loop .s) (c .before .loop .m) (c .before .loop .inv .1) (let q = length-entries (c .before .before .before .args .b .now) ((c .before .before .before .args .t) .rows) ((c .before .before .before .args .t) .«row_count») rowFrom in omega (arith, c .loop-test .left))
+
+pub check-rows-spec : {M : Type 1} → statement M
+check-rows-spec =
+    tie.close
+    (tie.spec
+    Inv-loop
+    μ-loop
+    loop-holds
+    known-row-requires
+    check-row-requires
+    enum-known-e
+    returns
+    enum-told
+    panes-used-requires
+    add-p
+    shares-used-requires
+    add-s
+    minima-used-requires
+    add-m
+    add-i
+    loop-less
+    loop-again
+    returns-2)

@@ -1,0 +1,79 @@
+use mathlib.Core.Path.{ap, sym, _∙_}
+use native.Mathlib.Omega.{arith}
+use lib.ListN.{take, drop}
+use Rattle.rules.specs.Table.{real}
+use Rattle.lists.specs.Find.{placeOf}
+use Rattle.spec.specs.Rows.{tableOf}
+use Rattle.spec.specs.Entries.{length-entries}
+use Rattle.spec.specs.CheckLaws.{part-length}
+use Rattle.spec.specs.SplitLaws.{split-few, split-shares, split-share, split-many, split-minimum, split-good}
+use borrow.Author.Needs.{needs}
+use Rattle.spec.proofs.validate.check_split.Statement.{statement}
+use Rattle.spec.proofs.validate.check_split.Tie as tie
+use Rattle.spec.proofs.validate.check_split.Reads as reads
+use Rattle.spec.proofs.validate.check_split.Lts as lts
+use Rattle.spec.proofs.validate.bad_minimum.Reads as bad-minimum-reads
+use Rattle.spec.proofs.validate.bad_share.Reads as bad-share-reads
+
+-- src/validate.rt:117:9
+returns : tie.Need-returns
+returns c = split-few (c .before .before .args .n) (c .before .before .args .ns) (c .before .before .args .nm) (take (c .before .before .args .ns) (drop (c .before .before .args .s) ((tableOf (c .before .before .args .b .now) (c .before .before .args .t)) .shares))) (take (c .before .before .args .nm) (drop (c .before .before .args .m) ((tableOf (c .before .before .args .b .now) (c .before .before .args .t)) .minima))) (part-length ((tableOf (c .before .before .args .b .now) (c .before .before .args .t)) .shares) (c .before .before .args .s) (c .before .before .args .ns) (let l = length-entries (c .before .before .args .b .now) ((c .before .before .args .t) .shares) ((c .before .before .args .t) .«share_count») real in omega (arith, c .before .before .pre .1))) (part-length ((tableOf (c .before .before .args .b .now) (c .before .before .args .t)) .minima) (c .before .before .args .m) (c .before .before .args .nm) (let l = length-entries (c .before .before .args .b .now) ((c .before .before .args .t) .minima) ((c .before .before .args .t) .«minimum_count») real in omega (arith, c .before .before .pre .2))) (c .if1 .taken)
+
+-- src/validate.rt:120:9
+returns-2 : tie.Need-returns-2
+returns-2 c = split-shares (c .before .before .before .args .n) (c .before .before .before .args .ns) (c .before .before .before .args .nm) (take (c .before .before .before .args .ns) (drop (c .before .before .before .args .s) ((tableOf (c .before .before .before .args .b .now) (c .before .before .before .args .t)) .shares))) (take (c .before .before .before .args .nm) (drop (c .before .before .before .args .m) ((tableOf (c .before .before .before .args .b .now) (c .before .before .before .args .t)) .minima))) (part-length ((tableOf (c .before .before .before .args .b .now) (c .before .before .before .args .t)) .shares) (c .before .before .before .args .s) (c .before .before .before .args .ns) (let l = length-entries (c .before .before .before .args .b .now) ((c .before .before .before .args .t) .shares) ((c .before .before .before .args .t) .«share_count») real in omega (arith, c .before .before .before .pre .1))) (part-length ((tableOf (c .before .before .before .args .b .now) (c .before .before .before .args .t)) .minima) (c .before .before .before .args .m) (c .before .before .before .args .nm) (let l = length-entries (c .before .before .before .args .b .now) ((c .before .before .before .args .t) .minima) ((c .before .before .before .args .t) .«minimum_count») real in omega (arith, c .before .before .before .pre .2))) (c .before .if1 .left) (c .if2 .taken)
+
+-- src/validate.rt:125:31
+bad-share-requires : tie.Need-bad-share-requires
+bad-share-requires c κs = (c .before .before .before .pre .0 .shares, c .before .before .before .pre .1)
+
+-- src/validate.rt:125:22
+enum-known-index : tie.Need-enum-known-index
+enum-known-index c = search needs
+
+-- src/validate.rt:126:9
+returns-3 : tie.Need-returns-3
+returns-3 c = split-share (c .before .before .before .before .before .before .before .args .n) (c .before .before .before .before .before .before .before .args .ns) (c .before .before .before .before .before .before .before .args .nm) (take (c .before .before .before .before .before .before .before .args .ns) (drop (c .before .before .before .before .before .before .before .args .s) ((tableOf (c .before .before .before .before .before .before .before .args .b .now) (c .before .before .before .before .before .before .before .args .t)) .shares))) (take (c .before .before .before .before .before .before .before .args .nm) (drop (c .before .before .before .before .before .before .before .args .m) ((tableOf (c .before .before .before .before .before .before .before .args .b .now) (c .before .before .before .before .before .before .before .args .t)) .minima))) (part-length ((tableOf (c .before .before .before .before .before .before .before .args .b .now) (c .before .before .before .before .before .before .before .args .t)) .shares) (c .before .before .before .before .before .before .before .args .s) (c .before .before .before .before .before .before .before .args .ns) (let l = length-entries (c .before .before .before .before .before .before .before .args .b .now) ((c .before .before .before .before .before .before .before .args .t) .shares) ((c .before .before .before .before .before .before .before .args .t) .«share_count») real in omega (arith, c .before .before .before .before .before .before .before .pre .1))) (part-length ((tableOf (c .before .before .before .before .before .before .before .args .b .now) (c .before .before .before .before .before .before .before .args .t)) .minima) (c .before .before .before .before .before .before .before .args .m) (c .before .before .before .before .before .before .before .args .nm) (let l = length-entries (c .before .before .before .before .before .before .before .args .b .now) ((c .before .before .before .before .before .before .before .args .t) .minima) ((c .before .before .before .before .before .before .before .args .t) .«minimum_count») real in omega (arith, c .before .before .before .before .before .before .before .pre .2))) (c .before .before .before .before .before .if1 .left) (c .before .before .before .before .if2 .left) (c .before .index .given .0 .0) (ap placeOf (sym (c .before .index .given .1)) ∙ c .before .before .before .bad-share .ensures)
+
+enum-told : tie.Need-enum-told
+enum-told c = search needs
+
+-- src/validate.rt:129:9
+returns-4 : tie.Need-returns-4
+returns-4 c = split-many (c .before .before .before .before .before .before .before .args .n) (c .before .before .before .before .before .before .before .args .ns) (c .before .before .before .before .before .before .before .args .nm) (take (c .before .before .before .before .before .before .before .args .ns) (drop (c .before .before .before .before .before .before .before .args .s) ((tableOf (c .before .before .before .before .before .before .before .args .b .now) (c .before .before .before .before .before .before .before .args .t)) .shares))) (take (c .before .before .before .before .before .before .before .args .nm) (drop (c .before .before .before .before .before .before .before .args .m) ((tableOf (c .before .before .before .before .before .before .before .args .b .now) (c .before .before .before .before .before .before .before .args .t)) .minima))) (part-length ((tableOf (c .before .before .before .before .before .before .before .args .b .now) (c .before .before .before .before .before .before .before .args .t)) .shares) (c .before .before .before .before .before .before .before .args .s) (c .before .before .before .before .before .before .before .args .ns) (let l = length-entries (c .before .before .before .before .before .before .before .args .b .now) ((c .before .before .before .before .before .before .before .args .t) .shares) ((c .before .before .before .before .before .before .before .args .t) .«share_count») real in omega (arith, c .before .before .before .before .before .before .before .pre .1))) (part-length ((tableOf (c .before .before .before .before .before .before .before .args .b .now) (c .before .before .before .before .before .before .before .args .t)) .minima) (c .before .before .before .before .before .before .before .args .m) (c .before .before .before .before .before .before .before .args .nm) (let l = length-entries (c .before .before .before .before .before .before .before .args .b .now) ((c .before .before .before .before .before .before .before .args .t) .minima) ((c .before .before .before .before .before .before .before .args .t) .«minimum_count») real in omega (arith, c .before .before .before .before .before .before .before .pre .2))) (c .before .before .before .before .before .if1 .left) (c .before .before .before .before .if2 .left) (ap placeOf (sym (c .before .enum-told .given .1)) ∙ c .before .before .before .bad-share .ensures) (c .if3 .taken)
+
+-- src/validate.rt:134:31
+bad-minimum-requires : tie.Need-bad-minimum-requires
+bad-minimum-requires c κs = (c .before .before .before .before .before .before .before .pre .0 .minima, c .before .before .before .before .before .before .before .pre .2)
+
+-- src/validate.rt:134:22
+enum-known-index-2 : tie.Need-enum-known-index-2
+enum-known-index-2 c = search needs
+
+-- src/validate.rt:135:9
+returns-5 : tie.Need-returns-5
+returns-5 c = split-minimum (c .before .before .before .before .before .before .before .before .before .before .before .args .n) (c .before .before .before .before .before .before .before .before .before .before .before .args .ns) (c .before .before .before .before .before .before .before .before .before .before .before .args .nm) (take (c .before .before .before .before .before .before .before .before .before .before .before .args .ns) (drop (c .before .before .before .before .before .before .before .before .before .before .before .args .s) ((tableOf (c .before .before .before .before .before .before .before .before .before .before .before .args .b .now) (c .before .before .before .before .before .before .before .before .before .before .before .args .t)) .shares))) (take (c .before .before .before .before .before .before .before .before .before .before .before .args .nm) (drop (c .before .before .before .before .before .before .before .before .before .before .before .args .m) ((tableOf (c .before .before .before .before .before .before .before .before .before .before .before .args .b .now) (c .before .before .before .before .before .before .before .before .before .before .before .args .t)) .minima))) (part-length ((tableOf (c .before .before .before .before .before .before .before .before .before .before .before .args .b .now) (c .before .before .before .before .before .before .before .before .before .before .before .args .t)) .shares) (c .before .before .before .before .before .before .before .before .before .before .before .args .s) (c .before .before .before .before .before .before .before .before .before .before .before .args .ns) (let l = length-entries (c .before .before .before .before .before .before .before .before .before .before .before .args .b .now) ((c .before .before .before .before .before .before .before .before .before .before .before .args .t) .shares) ((c .before .before .before .before .before .before .before .before .before .before .before .args .t) .«share_count») real in omega (arith, c .before .before .before .before .before .before .before .before .before .before .before .pre .1))) (part-length ((tableOf (c .before .before .before .before .before .before .before .before .before .before .before .args .b .now) (c .before .before .before .before .before .before .before .before .before .before .before .args .t)) .minima) (c .before .before .before .before .before .before .before .before .before .before .before .args .m) (c .before .before .before .before .before .before .before .before .before .before .before .args .nm) (let l = length-entries (c .before .before .before .before .before .before .before .before .before .before .before .args .b .now) ((c .before .before .before .before .before .before .before .before .before .before .before .args .t) .minima) ((c .before .before .before .before .before .before .before .before .before .before .before .args .t) .«minimum_count») real in omega (arith, c .before .before .before .before .before .before .before .before .before .before .before .pre .2))) (c .before .before .before .before .before .before .before .before .before .if1 .left) (c .before .before .before .before .before .before .before .before .if2 .left) (ap placeOf (sym (c .before .before .before .before .before .enum-told .given .1)) ∙ c .before .before .before .before .before .before .before .bad-share .ensures) (c .before .before .before .before .if3 .left) (c .before .index2 .given .0 .0) (ap placeOf (sym (c .before .index2 .given .1)) ∙ c .before .before .before .bad-minimum .ensures)
+
+enum-told-2 : tie.Need-enum-told-2
+enum-told-2 c = search needs
+
+-- src/validate.rt:112:1
+returns-6 : tie.Need-returns-6
+returns-6 c = split-good (c .before .before .before .before .before .before .before .before .before .before .args .n) (c .before .before .before .before .before .before .before .before .before .before .args .ns) (c .before .before .before .before .before .before .before .before .before .before .args .nm) (take (c .before .before .before .before .before .before .before .before .before .before .args .ns) (drop (c .before .before .before .before .before .before .before .before .before .before .args .s) ((tableOf (c .before .before .before .before .before .before .before .before .before .before .args .b .now) (c .before .before .before .before .before .before .before .before .before .before .args .t)) .shares))) (take (c .before .before .before .before .before .before .before .before .before .before .args .nm) (drop (c .before .before .before .before .before .before .before .before .before .before .args .m) ((tableOf (c .before .before .before .before .before .before .before .before .before .before .args .b .now) (c .before .before .before .before .before .before .before .before .before .before .args .t)) .minima))) (part-length ((tableOf (c .before .before .before .before .before .before .before .before .before .before .args .b .now) (c .before .before .before .before .before .before .before .before .before .before .args .t)) .shares) (c .before .before .before .before .before .before .before .before .before .before .args .s) (c .before .before .before .before .before .before .before .before .before .before .args .ns) (let l = length-entries (c .before .before .before .before .before .before .before .before .before .before .args .b .now) ((c .before .before .before .before .before .before .before .before .before .before .args .t) .shares) ((c .before .before .before .before .before .before .before .before .before .before .args .t) .«share_count») real in omega (arith, c .before .before .before .before .before .before .before .before .before .before .pre .1))) (part-length ((tableOf (c .before .before .before .before .before .before .before .before .before .before .args .b .now) (c .before .before .before .before .before .before .before .before .before .before .args .t)) .minima) (c .before .before .before .before .before .before .before .before .before .before .args .m) (c .before .before .before .before .before .before .before .before .before .before .args .nm) (let l = length-entries (c .before .before .before .before .before .before .before .before .before .before .args .b .now) ((c .before .before .before .before .before .before .before .before .before .before .args .t) .minima) ((c .before .before .before .before .before .before .before .before .before .before .args .t) .«minimum_count») real in omega (arith, c .before .before .before .before .before .before .before .before .before .before .pre .2))) (c .before .before .before .before .before .before .before .before .if1 .left) (c .before .before .before .before .before .before .before .if2 .left) (ap placeOf (sym (c .before .before .before .before .enum-told .given .1)) ∙ c .before .before .before .before .before .before .bad-share .ensures) (c .before .before .before .if3 .left) (ap placeOf (sym (c .enum-told2 .given .1)) ∙ c .before .before .bad-minimum .ensures)
+
+pub check-split-spec : {M : Type 1} → statement M
+check-split-spec =
+    tie.close
+    (tie.spec
+    returns
+    returns-2
+    bad-share-requires
+    enum-known-index
+    returns-3
+    enum-told
+    returns-4
+    bad-minimum-requires
+    enum-known-index-2
+    returns-5
+    enum-told-2
+    returns-6)

@@ -1,0 +1,78 @@
+use mathlib.Core.Path.{_≡_, sym, _∙_}
+use Prim.Native.Nat.{_+_, _-_, _≤_}
+use native.Mathlib.Omega.{arith}
+use lib.ListN.{take, drop}
+use Rattle.rules.specs.Spec.{duplicate}
+use Rattle.rules.specs.Table.{number}
+use Rattle.spec.specs.Rows.{panesAt}
+use Rattle.spec.specs.Entries.{length-entries}
+use Rattle.spec.specs.CheckLaws.{Fresh, fresh-start, fresh-not, fresh-more, fresh-end}
+use Rattle.spec.proofs.validate.first_duplicate.Statement.{statement}
+use Rattle.spec.proofs.validate.first_duplicate.Tie as tie
+use Rattle.spec.proofs.validate.first_duplicate.Reads as reads
+use Rattle.spec.proofs.validate.first_duplicate.Lts as lts
+use Rattle.spec.proofs.entry.pane_at.Reads as pane-at-reads
+use Rattle.spec.proofs.validate.seen_before.Reads as seen-before-reads
+
+abbrev Inv-loop : tie.InvT-loop
+Inv-loop b t p n k₀ k = (k ≤ n) × (duplicate (take (p + k) (panesAt b t)) (take (n - k) (drop (p + k) (panesAt b t))) ≡ duplicate (take p (panesAt b t)) (take n (drop p (panesAt b t))))
+
+abbrev μ-loop : tie.MeasureT-loop
+μ-loop b t p n k₀ k = n - k
+
+-- src/validate.rt:55:5
+loop-holds : tie.Need-loop-holds Inv-loop μ-loop
+loop-holds c = (omega arith, fresh-start (panesAt (c .before .args .b .now) (c .before .args .t)) (c .before .args .p) (c .before .args .n) (let l = length-entries (c .before .args .b .now) ((c .before .args .t) .panes) ((c .before .args .t) .«pane_count») number in omega (arith, c .before .pre .1)) .rest)
+
+-- src/validate.rt:56:31
+add-pane-at : tie.Need-add-pane-at Inv-loop μ-loop
+add-pane-at c = omega (arith, c .before .before .before .pre .1, c .loop-test .taken, c .before .before .before .pre .0 .panes .few)
+
+-- src/validate.rt:56:13
+pane-at-requires : tie.Need-pane-at-requires Inv-loop μ-loop
+pane-at-requires c κs = (c .before .before .before .pre .0, omega (arith, c .before .before .before .pre .1, c .loop-test .taken))
+
+-- src/validate.rt:57:30
+add-seen-before : tie.Need-add-seen-before Inv-loop μ-loop
+add-seen-before c = omega (arith, c .before .before .before .before .pre .1, c .before .loop-test .taken, c .before .before .before .before .pre .0 .panes .few)
+
+-- src/validate.rt:57:12
+seen-before-requires : tie.Need-seen-before-requires Inv-loop μ-loop
+seen-before-requires c κs = (c .before .before .before .before .pre .0, omega (arith, c .before .before .before .before .pre .1, c .before .loop-test .taken))
+
+-- src/validate.rt:58:13
+returns : tie.Need-returns Inv-loop μ-loop
+returns c = fresh-not (panesAt (c .before .before .before .before .before .before .args .b .now) (c .before .before .before .before .before .before .args .t)) (c .before .before .before .before .before .before .args .p) (c .before .before .before .before .before .before .args .n) (let l = length-entries (c .before .before .before .before .before .before .args .b .now) ((c .before .before .before .before .before .before .args .t) .panes) ((c .before .before .before .before .before .before .args .t) .«pane_count») number in omega (arith, c .before .before .before .before .before .before .pre .1)) (c .before .before .before .before .loop .k) (record { within = c .before .before .before .before .loop .inv .0; rest = c .before .before .before .before .loop .inv .1 }) (c .before .before .before .loop-test .taken) (c .before .before .pane-at .result) (c .before .before .pane-at .ensures) (sym (c .if1 .taken) ∙ c .before .seen-before .ensures)
+
+-- src/validate.rt:60:9
+add-k : tie.Need-add-k Inv-loop μ-loop
+add-k c = omega (arith, c .before .before .before .before .before .before .pre .1, c .before .before .before .loop-test .taken, c .before .before .before .before .before .before .pre .0 .panes .few)
+
+-- src/validate.rt:55:5
+loop-less : tie.Need-loop-less Inv-loop μ-loop
+loop-less c = omega (arith, c .before .before .before .loop-test .taken)
+
+-- src/validate.rt:55:5
+loop-again : tie.Need-loop-again Inv-loop μ-loop
+loop-again c = (omega (arith, c .before .before .before .loop-test .taken), fresh-more (panesAt (c .before .before .before .before .before .before .args .b .now) (c .before .before .before .before .before .before .args .t)) (c .before .before .before .before .before .before .args .p) (c .before .before .before .before .before .before .args .n) (let l = length-entries (c .before .before .before .before .before .before .args .b .now) ((c .before .before .before .before .before .before .args .t) .panes) ((c .before .before .before .before .before .before .args .t) .«pane_count») number in omega (arith, c .before .before .before .before .before .before .pre .1)) (c .before .before .before .before .loop .k) (record { within = c .before .before .before .before .loop .inv .0; rest = c .before .before .before .before .loop .inv .1 }) (c .before .before .before .loop-test .taken) (c .before .before .pane-at .result) (c .before .before .pane-at .ensures) (sym (c .if1 .left) ∙ c .before .seen-before .ensures) .rest)
+
+-- src/validate.rt:50:1
+returns-2 : tie.Need-returns-2 Inv-loop μ-loop
+returns-2 c = fresh-end (panesAt (c .before .before .before .args .b .now) (c .before .before .before .args .t)) (c .before .before .before .args .p) (c .before .before .before .args .n) (let l = length-entries (c .before .before .before .args .b .now) ((c .before .before .before .args .t) .panes) ((c .before .before .before .args .t) .«pane_count») number in omega (arith, c .before .before .before .pre .1)) (c .before .loop .k) (record { within = c .before .loop .inv .0; rest = c .before .loop .inv .1 }) (c .loop-test .left)
+
+pub first-duplicate-spec : {M : Type 1} → statement M
+first-duplicate-spec =
+    tie.close
+    (tie.spec
+    Inv-loop
+    μ-loop
+    loop-holds
+    add-pane-at
+    pane-at-requires
+    add-seen-before
+    seen-before-requires
+    returns
+    add-k
+    loop-less
+    loop-again
+    returns-2)
