@@ -35,7 +35,7 @@ number-four s i x y h e f =
     let p : numberAt 2 (suc (suc i)) s ≡ numberAt 2 (i + 2) s = ap (λ (k : ℕ). numberAt 2 k s) (let q : suc (suc i) ≡ i + 2 = omega arith in q) in
     omega (arith, a, b, c, d, p)
 
-inner : {A : Type 0} (i w n : ℕ) (l : List A) → i + w ≤ n → take w (drop i (take n l)) ≡ take w (drop i l)
+pub inner : {A : Type 0} (i w n : ℕ) (l : List A) → i + w ≤ n → take w (drop i (take n l)) ≡ take w (drop i l)
 inner zero w n l h = take-take w n l (omega arith)
 inner (suc i) w zero l h = absurd (omega arith)
 inner (suc i) w (suc n) [] h = refl

@@ -12,3 +12,6 @@ pub mod Checks
 pub mod CheckLaws
 pub mod Walk
 pub mod SplitLaws
+pub mod Push
+pub mod PushLaws
+pub mod PushLoop

@@ -3,6 +3,7 @@
 pub mod bytes;
 pub mod entry;
 pub mod preorder;
+pub mod push;
 pub mod row;
 pub mod table;
 pub mod validate;
