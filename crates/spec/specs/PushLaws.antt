@@ -83,8 +83,8 @@ nodes-before kids kids′ i q (r ∷ rs) l w h e =
     let few : childrenUsed r ≤ 16 = few-children r (or-left (wideRow r) (anyOf wideRow rs) w) in
     let fit : 16 * i + childrenUsed r ≤ q = omega arith in
     λ j. node-as kids kids′ i r l
-        (sym (inner (16 * i) (childrenUsed r) q kids fit) ∙ ap (λ (k : List ℕ). take (childrenUsed r) (drop (16 * i) k)) e ∙ inner (16 * i) (childrenUsed r) q kids′ fit) j
-        ∷ nodes-before kids kids′ (suc i) q rs (after r l) (or-right (wideRow r) (anyOf wideRow rs) w) (omega arith) e j
+    (sym (inner (16 * i) (childrenUsed r) q kids fit) ∙ ap (λ (k : List ℕ). take (childrenUsed r) (drop (16 * i) k)) e ∙ inner (16 * i) (childrenUsed r) q kids′ fit) j
+    ∷ nodes-before kids kids′ (suc i) q rs (after r l) (or-right (wideRow r) (anyOf wideRow rs) w) (omega arith) e j
 
 -- a part of narrow rows is narrow
 pub any-drop : (i : ℕ) (rs : List Row) → anyOf wideRow rs ≡ false → anyOf wideRow (drop i rs) ≡ false
@@ -117,7 +117,7 @@ pushed-none rows kids at s w h =
       size = s;
       kept = refl;
       same = λ f l ns a g. ap (λ (rs : List Row). pushSpec f (build rs l ns)) none-left ∙ by f l ns
-          ∙ (λ j. build (sym none-left j) (leftOver (sym (slice-empty at rows) j) l) (sym (append-nil ns ) j))
+          ∙ (λ j. build (sym none-left j) (leftOver (sym (slice-empty at rows) j) l) (sym (append-nil ns) j))
           ∙ ap (λ (rs : List Row). build (drop at rows) (leftOver (slice at at rows) l) (ns ++ nodesFrom kids at rs l)) (sym (slice-empty at rows));
     }
   where

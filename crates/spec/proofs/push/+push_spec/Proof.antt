@@ -1,3 +1,14 @@
+use Prim.Native.Nat.{_+_, _*_, _-_, _≤_}
+use mathlib.Core.Path.{ap, _∙_}
+use native.Mathlib.Omega.{arith}
+use borrow.Author.Needs.{needs}
+use lib.ListN.{length-set}
+use Rattle.rules.specs.Table.{paneRow, childrenUsed}
+use Rattle.spec.specs.Row.{rowIs}
+use Rattle.spec.specs.Rows.{rowFrom, rowsAt}
+use Rattle.spec.specs.Entries.{length-entries}
+use Rattle.spec.specs.PushLaws.{pushed-none, row-narrow}
+use Rattle.spec.specs.PushLoop.{Filling, fill-start, fill-more, fill-end}
 use Prim.Native.Nat.{ℕ, _<_}
 use borrow.Fn.Kinds.{In}
 use borrow.Fn.PlainCycle.{Measures, is, falls, and}
@@ -10,7 +21,7 @@ use Rattle.spec.proofs.push.+push_spec.{statement}
 use Rattle.spec.proofs.push.+push_spec.Tie.{close}
 
 abbrev μ-push-spec : Measures 2 push-spec-kinds.ps ℕ
-μ-push-spec κs a = ?
+μ-push-spec κs a = a .1 .0 .«row_count» - a .1 .1 .1 .0
 
 abbrev push-spec-at : ℕ → In 2 push-spec-kinds.ps
 push-spec-at t = and 2 push-spec-kinds.ps (is 2 push-spec-kinds.ps μ-push-spec t) push-spec.Pre
@@ -20,10 +31,10 @@ push-spec-below t =
     and 2 push-spec-kinds.ps (falls 2 push-spec-kinds.ps _<_ μ-push-spec t) push-spec.Pre
 
 abbrev push-spec-Inv-loop : push-spec-lts.InvT-loop
-push-spec-Inv-loop b t kids₀ at n next₀ j₀ kids next j = ?
+push-spec-Inv-loop b t kids₀ at n next₀ j₀ kids next j = Filling (rowsAt b t) at n kids₀ kids j next
 
 abbrev push-spec-μ-loop : push-spec-lts.MeasureT-loop
-push-spec-μ-loop b t kids₀ at n next₀ j₀ kids next j = ?
+push-spec-μ-loop b t kids₀ at n next₀ j₀ kids next j = n - j
 
 -- src/push.rt:16:9
 push-spec-returns : (t : ℕ) → push-spec-lts.Need-returns (
@@ -34,7 +45,7 @@ push-spec-returns : (t : ℕ) → push-spec-lts.Need-returns (
   push-spec-below t,
   push-spec.Post,
 ) (push-spec-at t) push-spec.Post push-spec-Inv-loop push-spec-μ-loop
-push-spec-returns t c = ?
+push-spec-returns t c = let q = length-entries (c .before .before .before .args .b .now) ((c .before .before .before .args .t) .rows) ((c .before .before .before .args .t) .«row_count») rowFrom in pushed-none (rowsAt (c .before .before .before .args .b .now) (c .before .before .before .args .t)) (c .before .before .before .args .kids .now) (c .before .before .before .args .at) (c .before .before .before .pre .1 .size) (omega (arith, c .before .before .before .pre .1 .within)) (omega (arith, c .if1 .taken))
 
 -- src/push.rt:18:9
 push-spec-known-row-requires : (t : ℕ) → push-spec-lts.Need-known-row-requires (
@@ -45,7 +56,7 @@ push-spec-known-row-requires : (t : ℕ) → push-spec-lts.Need-known-row-requir
   push-spec-below t,
   push-spec.Post,
 ) (push-spec-at t) push-spec.Post push-spec-Inv-loop push-spec-μ-loop
-push-spec-known-row-requires t c κs = ?
+push-spec-known-row-requires t c κs = (c .before .before .before .pre .1 .placed, c .if1 .left)
 
 -- src/push.rt:19:9
 push-spec-children-used-requires : (t : ℕ) → push-spec-lts.Need-children-used-requires (
@@ -56,7 +67,7 @@ push-spec-children-used-requires : (t : ℕ) → push-spec-lts.Need-children-use
   push-spec-below t,
   push-spec.Post,
 ) (push-spec-at t) push-spec.Post push-spec-Inv-loop push-spec-μ-loop
-push-spec-children-used-requires t c κs = ?
+push-spec-children-used-requires t c κs = search needs
 
 -- src/push.rt:20:20
 push-spec-add-next : (t : ℕ) → push-spec-lts.Need-add-next (
@@ -67,7 +78,7 @@ push-spec-add-next : (t : ℕ) → push-spec-lts.Need-add-next (
   push-spec-below t,
   push-spec.Post,
 ) (push-spec-at t) push-spec.Post push-spec-Inv-loop push-spec-μ-loop
-push-spec-add-next t c = ?
+push-spec-add-next t c = omega (arith, c .before .before .if1 .left, c .before .before .before .before .before .pre .1 .few)
 
 -- src/push.rt:22:5
 push-spec-loop-holds : (t : ℕ) → push-spec-lts.Need-loop-holds (
@@ -78,7 +89,7 @@ push-spec-loop-holds : (t : ℕ) → push-spec-lts.Need-loop-holds (
   push-spec-below t,
   push-spec.Post,
 ) (push-spec-at t) push-spec.Post push-spec-Inv-loop push-spec-μ-loop
-push-spec-loop-holds t c = ?
+push-spec-loop-holds t c = fill-start (rowsAt (c .before .before .before .before .before .args .b .now) (c .before .before .before .before .before .args .t)) (c .before .before .before .before .before .args .at) (c .children-used .result) (c .before .before .before .before .before .args .kids .now) (let q = length-entries (c .before .before .before .before .before .args .b .now) ((c .before .before .before .before .before .args .t) .rows) ((c .before .before .before .before .before .args .t) .«row_count») rowFrom in omega (arith, c .before .before .if1 .left)) (c .before .before .before .before .before .pre .1 .size)
 
 -- src/push.rt:23:14
 push-spec-mul-kids : (t : ℕ) → push-spec-lts.Need-mul-kids (
@@ -89,7 +100,7 @@ push-spec-mul-kids : (t : ℕ) → push-spec-lts.Need-mul-kids (
   push-spec-below t,
   push-spec.Post,
 ) (push-spec-at t) push-spec.Post push-spec-Inv-loop push-spec-μ-loop
-push-spec-mul-kids t c = ?
+push-spec-mul-kids t c = let few : (c .before .before .children-used .result) ≤ 16 = (let q = row-narrow (rowsAt (c .before .before .before .before .before .before .before .args .b .now) (c .before .before .before .before .before .before .before .args .t)) (c .before .before .before .before .before .before .before .args .at) paneRow (let q = length-entries (c .before .before .before .before .before .before .before .args .b .now) ((c .before .before .before .before .before .before .before .args .t) .rows) ((c .before .before .before .before .before .before .before .args .t) .«row_count») rowFrom in omega (arith, c .before .before .before .before .if1 .left)) (c .before .before .before .before .before .before .before .pre .1 .narrow) in omega (arith, c .before .before .children-used .ensures, ap childrenUsed (c .before .before .before .known-row .ensures))) in omega (arith, c .before .before .before .before .if1 .left, c .before .before .before .before .before .before .before .pre .1 .few, c .loop-test .taken)
 
 -- src/push.rt:23:14
 push-spec-add-kids : (t : ℕ) → push-spec-lts.Need-add-kids (
@@ -100,7 +111,7 @@ push-spec-add-kids : (t : ℕ) → push-spec-lts.Need-add-kids (
   push-spec-below t,
   push-spec.Post,
 ) (push-spec-at t) push-spec.Post push-spec-Inv-loop push-spec-μ-loop
-push-spec-add-kids t c = ?
+push-spec-add-kids t c = let few : (c .before .before .children-used .result) ≤ 16 = (let q = row-narrow (rowsAt (c .before .before .before .before .before .before .before .args .b .now) (c .before .before .before .before .before .before .before .args .t)) (c .before .before .before .before .before .before .before .args .at) paneRow (let q = length-entries (c .before .before .before .before .before .before .before .args .b .now) ((c .before .before .before .before .before .before .before .args .t) .rows) ((c .before .before .before .before .before .before .before .args .t) .«row_count») rowFrom in omega (arith, c .before .before .before .before .if1 .left)) (c .before .before .before .before .before .before .before .pre .1 .narrow) in omega (arith, c .before .before .children-used .ensures, ap childrenUsed (c .before .before .before .known-row .ensures))) in omega (arith, c .before .before .before .before .if1 .left, c .before .before .before .before .before .before .before .pre .1 .few, c .loop-test .taken)
 
 -- src/push.rt:23:9
 push-spec-mul-kids-2 : (t : ℕ) → push-spec-lts.Need-mul-kids-2 (
@@ -111,7 +122,7 @@ push-spec-mul-kids-2 : (t : ℕ) → push-spec-lts.Need-mul-kids-2 (
   push-spec-below t,
   push-spec.Post,
 ) (push-spec-at t) push-spec.Post push-spec-Inv-loop push-spec-μ-loop
-push-spec-mul-kids-2 t c = ?
+push-spec-mul-kids-2 t c = let few : (c .before .before .children-used .result) ≤ 16 = (let q = row-narrow (rowsAt (c .before .before .before .before .before .before .before .args .b .now) (c .before .before .before .before .before .before .before .args .t)) (c .before .before .before .before .before .before .before .args .at) paneRow (let q = length-entries (c .before .before .before .before .before .before .before .args .b .now) ((c .before .before .before .before .before .before .before .args .t) .rows) ((c .before .before .before .before .before .before .before .args .t) .«row_count») rowFrom in omega (arith, c .before .before .before .before .if1 .left)) (c .before .before .before .before .before .before .before .pre .1 .narrow) in omega (arith, c .before .before .children-used .ensures, ap childrenUsed (c .before .before .before .known-row .ensures))) in omega (arith, c .before .before .before .before .if1 .left, c .before .before .before .before .before .before .before .pre .1 .few, c .loop-test .taken)
 
 -- src/push.rt:23:9
 push-spec-element-write-kids : (t : ℕ) → push-spec-lts.Need-element-write-kids (
@@ -122,7 +133,7 @@ push-spec-element-write-kids : (t : ℕ) → push-spec-lts.Need-element-write-ki
   push-spec-below t,
   push-spec.Post,
 ) (push-spec-at t) push-spec.Post push-spec-Inv-loop push-spec-μ-loop
-push-spec-element-write-kids t c = ?
+push-spec-element-write-kids t c = let few : (c .before .before .children-used .result) ≤ 16 = (let q = row-narrow (rowsAt (c .before .before .before .before .before .before .before .args .b .now) (c .before .before .before .before .before .before .before .args .t)) (c .before .before .before .before .before .before .before .args .at) paneRow (let q = length-entries (c .before .before .before .before .before .before .before .args .b .now) ((c .before .before .before .before .before .before .before .args .t) .rows) ((c .before .before .before .before .before .before .before .args .t) .«row_count») rowFrom in omega (arith, c .before .before .before .before .if1 .left)) (c .before .before .before .before .before .before .before .pre .1 .narrow) in omega (arith, c .before .before .children-used .ensures, ap childrenUsed (c .before .before .before .known-row .ensures))) in omega (arith, c .before .before .before .before .if1 .left, c .before .before .before .before .before .before .before .pre .1 .few, c .loop-test .taken, c .before .loop .inv .size)
 
 -- src/push.rt:24:9
 push-spec-push-spec-requires : (t : ℕ) → push-spec-lts.Need-push-spec-requires (
@@ -133,7 +144,7 @@ push-spec-push-spec-requires : (t : ℕ) → push-spec-lts.Need-push-spec-requir
   push-spec-below t,
   push-spec.Post,
 ) (push-spec-at t) push-spec.Post push-spec-Inv-loop push-spec-μ-loop
-push-spec-push-spec-requires t c κs = ?
+push-spec-push-spec-requires t c κs = let q = length-entries (c .before .before .before .before .before .before .before .before .args .b .now) ((c .before .before .before .before .before .before .before .before .args .t) .rows) ((c .before .before .before .before .before .before .before .before .args .t) .«row_count») rowFrom in (omega (arith, c .before .before .before .before .before .before .before .before .pre .0, c .before .before .loop .inv .low, c .before .before .loop .inv .high, c .before .before .before .before .before .if1 .left), record { placed = c .before .before .before .before .before .before .before .before .pre .1 .placed; few = c .before .before .before .before .before .before .before .before .pre .1 .few; narrow = c .before .before .before .before .before .before .before .before .pre .1 .narrow; within = omega (arith, c .before .before .loop .inv .high); size = length-set (c .before .before .loop .kids) (16 * (c .before .before .before .before .before .before .before .before .args .at) + c .before .before .loop .j) (c .before .before .loop .next) ∙ c .before .before .loop .inv .size })
 
 -- src/push.rt:25:9
 push-spec-add-j : (t : ℕ) → push-spec-lts.Need-add-j (
@@ -144,7 +155,7 @@ push-spec-add-j : (t : ℕ) → push-spec-lts.Need-add-j (
   push-spec-below t,
   push-spec.Post,
 ) (push-spec-at t) push-spec.Post push-spec-Inv-loop push-spec-μ-loop
-push-spec-add-j t c = ?
+push-spec-add-j t c = let few : (c .before .before .before .before .children-used .result) ≤ 16 = (let q = row-narrow (rowsAt (c .before .before .before .before .before .before .before .before .before .args .b .now) (c .before .before .before .before .before .before .before .before .before .args .t)) (c .before .before .before .before .before .before .before .before .before .args .at) paneRow (let q = length-entries (c .before .before .before .before .before .before .before .before .before .args .b .now) ((c .before .before .before .before .before .before .before .before .before .args .t) .rows) ((c .before .before .before .before .before .before .before .before .before .args .t) .«row_count») rowFrom in omega (arith, c .before .before .before .before .before .before .if1 .left)) (c .before .before .before .before .before .before .before .before .before .pre .1 .narrow) in omega (arith, c .before .before .before .before .children-used .ensures, ap childrenUsed (c .before .before .before .before .before .known-row .ensures))) in omega (arith, c .before .before .before .before .before .before .if1 .left, c .before .before .before .before .before .before .before .before .before .pre .1 .few, c .before .before .loop-test .taken)
 
 -- src/push.rt:22:5
 push-spec-loop-less : (t : ℕ) → push-spec-lts.Need-loop-less (
@@ -155,7 +166,7 @@ push-spec-loop-less : (t : ℕ) → push-spec-lts.Need-loop-less (
   push-spec-below t,
   push-spec.Post,
 ) (push-spec-at t) push-spec.Post push-spec-Inv-loop push-spec-μ-loop
-push-spec-loop-less t c = ?
+push-spec-loop-less t c = omega (arith, c .before .before .loop-test .taken)
 
 -- src/push.rt:22:5
 push-spec-loop-again : (t : ℕ) → push-spec-lts.Need-loop-again (
@@ -166,7 +177,7 @@ push-spec-loop-again : (t : ℕ) → push-spec-lts.Need-loop-again (
   push-spec-below t,
   push-spec.Post,
 ) (push-spec-at t) push-spec.Post push-spec-Inv-loop push-spec-μ-loop
-push-spec-loop-again t c = ?
+push-spec-loop-again t c = fill-more (rowsAt (c .before .before .before .before .before .before .before .before .before .args .b .now) (c .before .before .before .before .before .before .before .before .before .args .t)) (c .before .before .before .before .before .before .before .before .before .args .at) (c .before .before .before .before .children-used .result) (c .before .before .before .before .before .before .before .before .before .args .kids .now) (c .before .before .before .loop .kids) _ (c .before .before .before .loop .j) (c .before .before .before .loop .next) (c .push-spec .result) (c .before .before .before .loop .inv) (c .before .before .loop-test .taken) (let q = row-narrow (rowsAt (c .before .before .before .before .before .before .before .before .before .args .b .now) (c .before .before .before .before .before .before .before .before .before .args .t)) (c .before .before .before .before .before .before .before .before .before .args .at) paneRow (let q = length-entries (c .before .before .before .before .before .before .before .before .before .args .b .now) ((c .before .before .before .before .before .before .before .before .before .args .t) .rows) ((c .before .before .before .before .before .before .before .before .before .args .t) .«row_count») rowFrom in omega (arith, c .before .before .before .before .before .before .if1 .left)) (c .before .before .before .before .before .before .before .before .before .pre .1 .narrow) in omega (arith, c .before .before .before .before .children-used .ensures, ap childrenUsed (c .before .before .before .before .before .known-row .ensures))) (omega (arith, c .before .before .before .before .before .before .if1 .left, c .before .before .before .before .before .before .before .before .before .pre .1 .few)) (c .before .before .before .before .before .before .before .before .before .pre .1 .narrow) (c .push-spec .ensures)
 
 -- src/push.rt:11:1
 push-spec-returns-2 : (t : ℕ) → push-spec-lts.Need-returns-2 (
@@ -177,7 +188,7 @@ push-spec-returns-2 : (t : ℕ) → push-spec-lts.Need-returns-2 (
   push-spec-below t,
   push-spec.Post,
 ) (push-spec-at t) push-spec.Post push-spec-Inv-loop push-spec-μ-loop
-push-spec-returns-2 t c = ?
+push-spec-returns-2 t c = fill-end (rowsAt (c .before .before .before .before .before .before .before .args .b .now) (c .before .before .before .before .before .before .before .args .t)) (c .before .before .before .before .before .before .before .args .at) (c .before .before .children-used .result) (c .before .before .before .before .before .before .before .args .kids .now) (c .before .loop .kids) (c .before .loop .j) (c .before .loop .next) (rowIs (c .before .before .before .known-row .result)) (c .before .loop .inv) (c .loop-test .left) (let q = length-entries (c .before .before .before .before .before .before .before .args .b .now) ((c .before .before .before .before .before .before .before .args .t) .rows) ((c .before .before .before .before .before .before .before .args .t) .«row_count») rowFrom in omega (arith, c .before .before .before .before .if1 .left)) (c .before .before .before .known-row .ensures) (c .before .before .children-used .ensures)
 
 pub +push-spec-spec : {M : Type 1} → statement M
 +push-spec-spec = close μ-push-spec λ t. push-spec-lts.spec (
