@@ -15,3 +15,5 @@ pub mod SplitLaws
 pub mod Push
 pub mod PushLaws
 pub mod PushLoop
+pub mod Slots
+pub mod SlotLaws

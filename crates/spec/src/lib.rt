@@ -5,5 +5,6 @@ pub mod entry;
 pub mod preorder;
 pub mod push;
 pub mod row;
+pub mod slot;
 pub mod table;
 pub mod validate;

@@ -1,0 +1,95 @@
+use mathlib.Core.Path.{ap, sym, subst, _∙_}
+use lib.Seq.{getD-drop}
+use native.Mathlib.Omega.{arith}
+use Prim.Native.Nat.{ℕ, _+_}
+use mathlib.Core.Path.{_≡_}
+use lib.ListN.{getD}
+use Rattle.rules.specs.Tree.{Node, pane, split}
+use Rattle.spec.specs.Row.{rowIs}
+use Rattle.spec.specs.Rows.{tableOf, panesAt}
+use Rattle.spec.specs.Checks.{leftAt, Room}
+use Rattle.spec.specs.Push.{rowNode}
+use Rattle.spec.specs.Slots.{Fit, SlotIs}
+use Rattle.spec.specs.SlotLaws.{first-of, first-room}
+use Rattle.spec.specs.declared.row.TableRow.{TableRow}
+use borrow.Author.Needs.{needs}
+use Rattle.spec.proofs.slot.slot_of.Statement.{statement}
+use Rattle.spec.proofs.slot.slot_of.Tie as tie
+use Rattle.spec.proofs.slot.slot_of.Reads as reads
+use Rattle.spec.proofs.slot.slot_of.Lts as lts
+use Rattle.spec.proofs.entry.pane_at.Reads as pane-at-reads
+use Rattle.spec.proofs.slot.children_of.Reads as children-of-reads
+use Rattle.spec.proofs.slot.pane_slot.Reads as pane-slot-reads
+use Rattle.spec.proofs.slot.reals_of.Reads as reals-of-reads
+use Rattle.spec.proofs.slot.split_from.Reads as split-from-reads
+use Rattle.spec.proofs.slot.tabs_slot.Reads as tabs-slot-reads
+
+-- src/slot.rt:145:37
+enum-told : tie.Need-enum-told
+enum-told c = search needs
+
+-- src/slot.rt:145:37
+pane-at-requires : tie.Need-pane-at-requires
+pane-at-requires c κs = (c .before .before .before .pre .0, first-room (c .before .before .before .args .p) ((subst (λ (r : TableRow). Room (c .before .before .before .args .t) (rowIs r) (c .before .before .before .args .p) (c .before .before .before .args .s) (c .before .before .before .args .m)) (c .enum-told .given .1) (c .before .before .before .pre .1)) .panes))
+
+-- src/slot.rt:145:27
+pane-slot-requires : tie.Need-pane-slot-requires
+pane-slot-requires c κs = search needs
+
+-- src/slot.rt:147:13
+enum-known-row : tie.Need-enum-known-row
+enum-known-row c = search needs
+
+-- src/slot.rt:150:14
+tabs-slot-requires : tie.Need-tabs-slot-requires
+tabs-slot-requires c κs = (c .before .before .before .before .pre .0, (subst (λ (r : TableRow). Room (c .before .before .before .before .args .t) (rowIs r) (c .before .before .before .before .args .p) (c .before .before .before .before .args .s) (c .before .before .before .before .args .m)) (c .before .row .given .1) (c .before .before .before .before .pre .1)) .panes, (subst (λ (r : TableRow). Fit (rowIs r)) (c .before .row .given .1) (c .before .before .before .before .pre .2)) .panes)
+
+-- src/slot.rt:152:13
+enum-known-row-2 : tie.Need-enum-known-row-2
+enum-known-row-2 c = search needs
+
+-- src/slot.rt:157:17
+children-of-requires : tie.Need-children-of-requires
+children-of-requires c κs = (c .before .before .before .before .pre .3, c .before .before .before .before .pre .4, (subst (λ (r : TableRow). Fit (rowIs r)) (c .before .row2 .given .1) (c .before .before .before .before .pre .2)) .children)
+
+-- src/slot.rt:158:17
+reals-of-requires : tie.Need-reals-of-requires
+reals-of-requires c κs = (c .before .before .before .before .before .pre .0 .shares, (subst (λ (r : TableRow). Room (c .before .before .before .before .before .args .t) (rowIs r) (c .before .before .before .before .before .args .p) (c .before .before .before .before .before .args .s) (c .before .before .before .before .before .args .m)) (c .before .before .row2 .given .1) (c .before .before .before .before .before .pre .1)) .shares, (subst (λ (r : TableRow). Fit (rowIs r)) (c .before .before .row2 .given .1) (c .before .before .before .before .before .pre .2)) .shares)
+
+-- src/slot.rt:159:17
+reals-of-requires-2 : tie.Need-reals-of-requires-2
+reals-of-requires-2 c κs = (c .before .before .before .before .before .before .pre .0 .minima, (subst (λ (r : TableRow). Room (c .before .before .before .before .before .before .args .t) (rowIs r) (c .before .before .before .before .before .before .args .p) (c .before .before .before .before .before .before .args .s) (c .before .before .before .before .before .before .args .m)) (c .before .before .before .row2 .given .1) (c .before .before .before .before .before .before .pre .1)) .minima, (subst (λ (r : TableRow). Fit (rowIs r)) (c .before .before .before .row2 .given .1) (c .before .before .before .before .before .before .pre .2)) .minima)
+
+-- src/slot.rt:160:13
+split-from-requires : tie.Need-split-from-requires
+split-from-requires c κs = (c .before .before .children-of .ensures .few, c .before .reals-of .ensures .few, c .reals-of2 .ensures .few)
+
+-- src/slot.rt:140:1
+returns : tie.Need-returns
+returns c = subst (λ (n : Node). SlotIs (c .pane-slot .result) n) (ap pane (c .before .pane-at .ensures ∙ first-of (panesAt (c .before .before .before .before .before .args .b .now) (c .before .before .before .before .before .args .t)) (c .before .before .before .before .before .args .p)) ∙ ap (λ (r : TableRow). rowNode (c .before .before .before .before .before .args .kids .now) (c .before .before .before .before .before .args .i) (rowIs r) (leftAt (tableOf (c .before .before .before .before .before .args .b .now) (c .before .before .before .before .before .args .t)) (c .before .before .before .before .before .args .p) (c .before .before .before .before .before .args .s) (c .before .before .before .before .before .args .m))) (sym (c .before .before .enum-told .given .1))) (c .pane-slot .ensures)
+
+-- src/slot.rt:140:1
+returns-2 : tie.Need-returns-2
+returns-2 c = subst (λ (n : Node). SlotIs (c .tabs-slot .result) n) (ap (λ (r : TableRow). rowNode (c .before .before .before .before .before .args .kids .now) (c .before .before .before .before .before .args .i) (rowIs r) (leftAt (tableOf (c .before .before .before .before .before .args .b .now) (c .before .before .before .before .before .args .t)) (c .before .before .before .before .before .args .p) (c .before .before .before .before .before .args .s) (c .before .before .before .before .before .args .m))) (sym (c .before .before .row .given .1))) (c .tabs-slot .ensures)
+
+-- src/slot.rt:140:1
+returns-3 : tie.Need-returns-3
+returns-3 c = subst (λ (n : Node). SlotIs (c .split-from .result) n) ((λ j. split (c .before .before .before .before .before .row2 .given .0 .0) (c .before .before .before .children-of .ensures .list j) (c .before .before .reals-of .ensures .list j) (c .before .reals-of2 .ensures .list j)) ∙ ap (λ (r : TableRow). rowNode (c .before .before .before .before .before .before .before .before .args .kids .now) (c .before .before .before .before .before .before .before .before .args .i) (rowIs r) (leftAt (tableOf (c .before .before .before .before .before .before .before .before .args .b .now) (c .before .before .before .before .before .before .before .before .args .t)) (c .before .before .before .before .before .before .before .before .args .p) (c .before .before .before .before .before .before .before .before .args .s) (c .before .before .before .before .before .before .before .before .args .m))) (sym (c .before .before .before .before .before .row2 .given .1))) (c .split-from .ensures)
+
+pub slot-of-spec : {M : Type 1} → statement M
+slot-of-spec =
+    tie.close
+    (tie.spec
+    enum-told
+    pane-at-requires
+    pane-slot-requires
+    enum-known-row
+    tabs-slot-requires
+    enum-known-row-2
+    children-of-requires
+    reals-of-requires
+    reals-of-requires-2
+    split-from-requires
+    returns
+    returns-2
+    returns-3)
