@@ -17,3 +17,4 @@ pub mod PushLaws
 pub mod PushLoop
 pub mod Slots
 pub mod SlotLaws
+pub mod SlotsLoop

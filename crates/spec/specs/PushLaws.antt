@@ -62,11 +62,11 @@ nodes-after kids kids′ i (r ∷ rs) l e =
     next : (ks : List ℕ) → drop (16 * suc i) ks ≡ drop 16 (drop (16 * i) ks)
     next ks = ap (λ (k : ℕ). drop k ks) (let z : 16 * suc i ≡ 16 * i + 16 = omega arith in z) ∙ sym (drop-drop 16 (16 * i) ks)
 
-or-left : (a b : Bool) → (a || b) ≡ false → a ≡ false
+pub or-left : (a b : Bool) → (a || b) ≡ false → a ≡ false
 or-left true b e = e
 or-left false b e = refl
 
-or-right : (a b : Bool) → (a || b) ≡ false → b ≡ false
+pub or-right : (a b : Bool) → (a || b) ≡ false → b ≡ false
 or-right true b e = absurd (let z : _≡_ {A = ℕ} 0 1 = cc in omega arith)
 or-right false b e = e
 

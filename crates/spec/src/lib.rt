@@ -6,5 +6,6 @@ pub mod preorder;
 pub mod push;
 pub mod row;
 pub mod slot;
+pub mod slots;
 pub mod table;
 pub mod validate;

@@ -144,7 +144,7 @@ fn split_from(axis: Axis, children: Tiles, shares: Reals, minima: Reals) -> Slot
 }
 
 // The i-th row's, after p panes, s shares and m minima: the arms of push_spec, with its children already known.
-fn slot_of(
+pub fn slot_of(
     b: &[u8],
     t: Places,
     kids: &[u64; 1024],
