@@ -1,3 +1,13 @@
+use mathlib.Core.Path.{sym, subst}
+use Prim.Native.Nat.{_-_, _≤_}
+use native.Mathlib.Omega.{arith}
+use borrow.Author.Needs.{needs}
+use Rattle.rules.specs.Table.{Row}
+use Rattle.spec.specs.Row.{rowIs}
+use Rattle.spec.specs.Rows.{tableOf}
+use Rattle.spec.specs.Walk.{along-room}
+use Rattle.spec.specs.Slots.{Fit}
+use Rattle.spec.specs.SlotsLoop.{Slotting, slotting-start, slotting-more, slotting-end}
 use Rattle.spec.proofs.slots.slots_of.Statement.{statement}
 use Rattle.spec.proofs.slots.slots_of.Tie as tie
 use Rattle.spec.proofs.slots.slots_of.Reads as reads
@@ -10,74 +20,74 @@ use Rattle.spec.proofs.slot.empty_slot.Reads as empty-slot-reads
 use Rattle.spec.proofs.slot.slot_of.Reads as slot-of-reads
 
 abbrev Inv-loop : tie.InvT-loop
-Inv-loop b t kids end slots₀ i₀ p₀ s₀ m₀ slots i p s m = ?
+Inv-loop b t kids end slots₀ i₀ p₀ s₀ m₀ slots i p s m = Slotting b t kids end i p s m slots
 
 abbrev μ-loop : tie.MeasureT-loop
-μ-loop b t kids end slots₀ i₀ p₀ s₀ m₀ slots i p s m = ?
+μ-loop b t kids end slots₀ i₀ p₀ s₀ m₀ slots i p s m = end - i
 
 -- src/slots.rt:17:9
 empty-slot-requires : tie.Need-empty-slot-requires Inv-loop μ-loop
-empty-slot-requires c κs = ?
+empty-slot-requires c κs = search needs
 
 -- src/slots.rt:23:5
 loop-holds : tie.Need-loop-holds Inv-loop μ-loop
-loop-holds c = ?
+loop-holds c = slotting-start (c .before .before .args .b .now) (c .before .before .args .t) (c .before .before .args .kids .now) (c .before .before .args .end) (c .before .before .pre) (c .empty-slot .result) (c .empty-slot .ensures)
 
 -- src/slots.rt:24:13
 known-row-requires : tie.Need-known-row-requires Inv-loop μ-loop
-known-row-requires c κs = ?
+known-row-requires c κs = (c .before .before .before .before .pre .placed, (let w : (c .before .before .before .before .args .end) ≤ (c .before .before .before .before .args .t) .«row_count» = c .before .before .before .before .pre .within in omega (arith, c .loop-test .taken)))
 
 -- src/slots.rt:25:13
 slot-of-requires : tie.Need-slot-of-requires Inv-loop μ-loop
-slot-of-requires c κs = ?
+slot-of-requires c κs = (c .before .before .before .before .before .pre .placed, (along-room (c .before .before .before .before .before .args .b .now) (c .before .before .before .before .before .args .t) (c .before .before .loop .i) (c .before .before .loop .p) (c .before .before .loop .s) (c .before .before .loop .m) (rowIs (c .known-row .result)) (c .before .before .loop .inv .along) (let w : (c .before .before .before .before .before .args .end) ≤ (c .before .before .before .before .before .args .t) .«row_count» = c .before .before .before .before .before .pre .within in omega (arith, c .before .loop-test .taken)) (c .known-row .ensures)), subst (λ (r : Row). Fit r) (sym (c .known-row .ensures)) (c .before .before .before .before .before .pre .fit (c .before .before .loop .i) (let w : (c .before .before .before .before .before .args .end) ≤ (c .before .before .before .before .before .args .t) .«row_count» = c .before .before .before .before .before .pre .within in omega (arith, c .before .loop-test .taken))), c .before .before .before .before .before .pre .size, omega (arith, c .before .loop-test .taken, c .before .before .before .before .before .pre .within, c .before .before .before .before .before .pre .few))
 
 -- src/slots.rt:26:9
 mul-slots : tie.Need-mul-slots Inv-loop μ-loop
-mul-slots c = ?
+mul-slots c = omega (arith, c .before .before .loop-test .taken, c .before .before .before .before .before .before .pre .within, c .before .before .before .before .before .before .pre .few)
 
 -- src/slots.rt:26:9
 array-set-from-slots : tie.Need-array-set-from-slots Inv-loop μ-loop
-array-set-from-slots c = ?
+array-set-from-slots c = omega (arith, c .before .before .loop-test .taken, c .before .before .before .before .before .before .pre .within, c .before .before .before .before .before .before .pre .few)
 
 -- src/slots.rt:27:14
 panes-used-requires : tie.Need-panes-used-requires Inv-loop μ-loop
-panes-used-requires c κs = ?
+panes-used-requires c κs = search needs
 
 -- src/slots.rt:27:9
 add-p : tie.Need-add-p Inv-loop μ-loop
-add-p c = ?
+add-p c = omega (arith, (along-room (c .before .before .before .before .before .before .before .args .b .now) (c .before .before .before .before .before .before .before .args .t) (c .before .before .before .before .loop .i) (c .before .before .before .before .loop .p) (c .before .before .before .before .loop .s) (c .before .before .before .before .loop .m) (rowIs (c .before .before .known-row .result)) (c .before .before .before .before .loop .inv .along) (let w : (c .before .before .before .before .before .before .before .args .end) ≤ (c .before .before .before .before .before .before .before .args .t) .«row_count» = c .before .before .before .before .before .before .before .pre .within in omega (arith, c .before .before .before .loop-test .taken)) (c .before .before .known-row .ensures)) .panes, c .panes-used .ensures, c .before .before .before .before .before .before .before .pre .placed .panes .few)
 
 -- src/slots.rt:28:14
 shares-used-requires : tie.Need-shares-used-requires Inv-loop μ-loop
-shares-used-requires c κs = ?
+shares-used-requires c κs = search needs
 
 -- src/slots.rt:28:9
 add-s : tie.Need-add-s Inv-loop μ-loop
-add-s c = ?
+add-s c = omega (arith, (along-room (c .before .before .before .before .before .before .before .before .args .b .now) (c .before .before .before .before .before .before .before .before .args .t) (c .before .before .before .before .before .loop .i) (c .before .before .before .before .before .loop .p) (c .before .before .before .before .before .loop .s) (c .before .before .before .before .before .loop .m) (rowIs (c .before .before .before .known-row .result)) (c .before .before .before .before .before .loop .inv .along) (let w : (c .before .before .before .before .before .before .before .before .args .end) ≤ (c .before .before .before .before .before .before .before .before .args .t) .«row_count» = c .before .before .before .before .before .before .before .before .pre .within in omega (arith, c .before .before .before .before .loop-test .taken)) (c .before .before .before .known-row .ensures)) .shares, c .shares-used .ensures, c .before .before .before .before .before .before .before .before .pre .placed .shares .few)
 
 -- src/slots.rt:29:14
 minima-used-requires : tie.Need-minima-used-requires Inv-loop μ-loop
-minima-used-requires c κs = ?
+minima-used-requires c κs = search needs
 
 -- src/slots.rt:29:9
 add-m : tie.Need-add-m Inv-loop μ-loop
-add-m c = ?
+add-m c = omega (arith, (along-room (c .before .before .before .before .before .before .before .before .before .args .b .now) (c .before .before .before .before .before .before .before .before .before .args .t) (c .before .before .before .before .before .before .loop .i) (c .before .before .before .before .before .before .loop .p) (c .before .before .before .before .before .before .loop .s) (c .before .before .before .before .before .before .loop .m) (rowIs (c .before .before .before .before .known-row .result)) (c .before .before .before .before .before .before .loop .inv .along) (let w : (c .before .before .before .before .before .before .before .before .before .args .end) ≤ (c .before .before .before .before .before .before .before .before .before .args .t) .«row_count» = c .before .before .before .before .before .before .before .before .before .pre .within in omega (arith, c .before .before .before .before .before .loop-test .taken)) (c .before .before .before .before .known-row .ensures)) .minima, c .minima-used .ensures, c .before .before .before .before .before .before .before .before .before .pre .placed .minima .few)
 
 -- src/slots.rt:30:9
 add-i : tie.Need-add-i Inv-loop μ-loop
-add-i c = ?
+add-i c = omega (arith, c .before .before .before .before .before .loop-test .taken, c .before .before .before .before .before .before .before .before .before .pre .within, c .before .before .before .before .before .before .before .before .before .pre .few)
 
 -- src/slots.rt:23:5
 loop-less : tie.Need-loop-less Inv-loop μ-loop
-loop-less c = ?
+loop-less c = omega (arith, c .before .before .before .before .before .loop-test .taken)
 
 -- src/slots.rt:23:5
 loop-again : tie.Need-loop-again Inv-loop μ-loop
-loop-again c = ?
+loop-again c = slotting-more (c .before .before .before .before .before .before .before .before .before .args .b .now) (c .before .before .before .before .before .before .before .before .before .args .t) (c .before .before .before .before .before .before .before .before .before .args .kids .now) (c .before .before .before .before .before .before .before .before .before .args .end) (c .before .before .before .before .before .before .before .before .before .pre) (c .before .before .before .before .before .before .loop .i) (c .before .before .before .before .before .before .loop .p) (c .before .before .before .before .before .before .loop .s) (c .before .before .before .before .before .before .loop .m) (c .before .before .before .before .before .before .loop .slots) (c .before .before .before .before .before .before .loop .inv) (c .before .before .before .before .before .loop-test .taken) (rowIs (c .before .before .before .before .known-row .result)) (c .before .before .panes-used .result) (c .before .shares-used .result) (c .minima-used .result) (c .before .before .before .slot-of .result) (c .before .before .before .before .known-row .ensures) (c .before .before .panes-used .ensures) (c .before .shares-used .ensures) (c .minima-used .ensures) (c .before .before .before .slot-of .ensures)
 
 -- src/slots.rt:13:1
 returns : tie.Need-returns Inv-loop μ-loop
-returns c = ?
+returns c = slotting-end (c .before .before .before .before .args .b .now) (c .before .before .before .before .args .t) (c .before .before .before .before .args .kids .now) (c .before .before .before .before .args .end) (c .before .before .before .before .pre) (c .before .loop .i) (c .before .loop .p) (c .before .loop .s) (c .before .loop .m) (c .before .loop .slots) (c .before .loop .inv) (c .loop-test .left)
 
 pub slots-of-spec : {M : Type 1} → statement M
 slots-of-spec =
