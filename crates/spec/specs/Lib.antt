@@ -18,3 +18,5 @@ pub mod PushLoop
 pub mod Slots
 pub mod SlotLaws
 pub mod SlotsLoop
+pub mod Draft
+pub mod DraftLaws

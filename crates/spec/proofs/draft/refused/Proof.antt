@@ -1,0 +1,27 @@
+use borrow.Author.Needs.{needs}
+use Rattle.spec.proofs.draft.refused.Statement.{statement}
+use Rattle.spec.proofs.draft.refused.Tie as tie
+use Rattle.spec.proofs.draft.refused.Reads as reads
+use Rattle.spec.proofs.draft.refused.Lts as lts
+use Rattle.spec.proofs.draft.group_slot.Reads as group-slot-reads
+use Rattle.spec.proofs.slot.empty_slot.Reads as empty-slot-reads
+
+-- src/draft.rt:51:9
+empty-slot-requires : tie.Need-empty-slot-requires
+empty-slot-requires c κs = search needs
+
+-- src/draft.rt:53:9
+group-slot-requires : tie.Need-group-slot-requires
+group-slot-requires c κs = search needs
+
+-- src/draft.rt:54:5
+array-set-from-slots : tie.Need-array-set-from-slots
+array-set-from-slots c = search needs
+
+-- src/draft.rt:48:1
+returns : tie.Need-returns
+returns c = ?
+
+pub refused-spec : {M : Type 1} → statement M
+refused-spec =
+    tie.close (tie.spec empty-slot-requires group-slot-requires array-set-from-slots returns)
