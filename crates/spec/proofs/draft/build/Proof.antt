@@ -1,3 +1,10 @@
+use mathlib.Core.Path.{ap, sym, subst, _∙_}
+use Rattle.rules.specs.Spec.{Built}
+use Rattle.spec.specs.Rows.{TableIs}
+use Rattle.spec.specs.Checks.{checkedAs}
+use Rattle.spec.specs.Draft.{Drafted}
+use Rattle.spec.specs.DraftLaws.{draft-bad, draft-full, draft-wide, draft-refused, draft-built, passed}
+use Rattle.spec.specs.declared.table.Sections.{Sections}
 use borrow.Author.Needs.{needs}
 use Rattle.spec.proofs.draft.build.Statement.{statement}
 use Rattle.spec.proofs.draft.build.Tie as tie
@@ -27,7 +34,7 @@ refused-requires c κs = search needs
 
 -- src/draft.rt:86:9
 returns : tie.Need-returns
-returns c = ?
+returns c = subst (λ (b : Built). Drafted (c .refused .result .answer) (c .refused .result .tree) b) (draft-bad (c .before .before .before .before .before .args .b .now) (subst (λ (r : Sections). TableIs (c .before .before .before .before .before .args .b .now) r) (c .before .enum-told .given .1) (c .before .before .before .read-table .ensures))) (c .refused .ensures)
 
 -- src/draft.rt:89:9
 refused-requires-2 : tie.Need-refused-requires-2
@@ -35,11 +42,11 @@ refused-requires-2 c κs = search needs
 
 -- src/draft.rt:89:9
 returns-2 : tie.Need-returns-2
-returns-2 c = ?
+returns-2 c = subst (λ (b : Built). Drafted (c .refused2 .result .answer) (c .refused2 .result .tree) b) (draft-full (c .before .before .before .before .before .before .before .before .args .b .now) (c .before .before .before .before .t .given .0 .0) (subst (λ (r : Sections). TableIs (c .before .before .before .before .before .before .before .before .args .b .now) r) (c .before .before .before .before .t .given .1) (c .before .before .before .before .before .before .read-table .ensures)) (c .before .if1 .taken)) (c .refused2 .ensures)
 
 -- src/draft.rt:91:8
 too-wide-requires : tie.Need-too-wide-requires
-too-wide-requires c κs = ?
+too-wide-requires c κs = (subst (λ (r : Sections). TableIs (c .before .before .before .before .before .before .before .args .b .now) r) (c .before .before .before .t .given .1) (c .before .before .before .before .before .read-table .ensures)) .placed
 
 -- src/draft.rt:92:9
 refused-requires-3 : tie.Need-refused-requires-3
@@ -47,11 +54,11 @@ refused-requires-3 c κs = search needs
 
 -- src/draft.rt:92:9
 returns-3 : tie.Need-returns-3
-returns-3 c = ?
+returns-3 c = subst (λ (b : Built). Drafted (c .refused3 .result .answer) (c .refused3 .result .tree) b) (draft-wide (c .before .before .before .before .before .before .before .before .before .before .args .b .now) (c .before .before .before .before .before .before .t .given .0 .0) (subst (λ (r : Sections). TableIs (c .before .before .before .before .before .before .before .before .before .before .args .b .now) r) (c .before .before .before .before .before .before .t .given .1) (c .before .before .before .before .before .before .before .before .read-table .ensures)) (c .before .before .before .if1 .left) (sym (c .before .if2 .taken) ∙ c .before .before .too-wide .ensures)) (c .refused3 .ensures)
 
 -- src/draft.rt:94:30
 check-rows-requires : tie.Need-check-rows-requires
-check-rows-requires c κs = ?
+check-rows-requires c κs = ((subst (λ (r : Sections). TableIs (c .before .before .before .before .before .before .before .before .before .args .b .now) r) (c .before .before .before .before .before .t .given .1) (c .before .before .before .before .before .before .before .read-table .ensures)) .placed, (subst (λ (r : Sections). TableIs (c .before .before .before .before .before .before .before .before .before .args .b .now) r) (c .before .before .before .before .before .t .given .1) (c .before .before .before .before .before .before .before .read-table .ensures)) .used)
 
 -- src/draft.rt:94:25
 enum-known-e : tie.Need-enum-known-e
@@ -63,18 +70,18 @@ refused-requires-4 c κs = search needs
 
 -- src/draft.rt:95:9
 returns-4 : tie.Need-returns-4
-returns-4 c = ?
+returns-4 c = subst (λ (b : Built). Drafted (c .refused4 .result .answer) (c .refused4 .result .tree) b) (draft-refused (c .before .before .before .before .before .before .before .before .before .before .before .before .before .before .args .b .now) (c .before .before .before .before .before .before .before .before .before .before .t .given .0 .0) (subst (λ (r : Sections). TableIs (c .before .before .before .before .before .before .before .before .before .before .before .before .before .before .args .b .now) r) (c .before .before .before .before .before .before .before .before .before .before .t .given .1) (c .before .before .before .before .before .before .before .before .before .before .before .before .read-table .ensures)) (c .before .before .before .before .before .before .before .if1 .left) (sym (c .before .before .before .before .before .if2 .left) ∙ c .before .before .before .before .before .before .too-wide .ensures) (c .before .before .e .given .0 .0) (ap checkedAs (sym (c .before .before .e .given .1)) ∙ c .before .before .before .before .check-rows .ensures)) (c .refused4 .ensures)
 
 enum-told-2 : tie.Need-enum-told-2
 enum-told-2 c = search needs
 
 -- src/draft.rt:97:9
 built-tree-requires : tie.Need-built-tree-requires
-built-tree-requires c κs = ?
+built-tree-requires c κs = passed (c .before .before .before .before .before .before .before .before .before .before .before .before .args .b .now) (c .before .before .before .before .before .before .before .before .t .given .0 .0) (subst (λ (r : Sections). TableIs (c .before .before .before .before .before .before .before .before .before .before .before .before .args .b .now) r) (c .before .before .before .before .before .before .before .before .t .given .1) (c .before .before .before .before .before .before .before .before .before .before .read-table .ensures)) (c .before .before .before .before .before .if1 .left) (sym (c .before .before .before .if2 .left) ∙ c .before .before .before .before .too-wide .ensures) (ap checkedAs (sym (c .enum-told2 .given .1)) ∙ c .before .before .check-rows .ensures)
 
 -- src/draft.rt:82:1
 returns-5 : tie.Need-returns-5
-returns-5 c = ?
+returns-5 c = record { says = sym (ap (λ (b : Built). b .answer) (draft-built (c .before .before .before .before .before .before .before .before .before .before .before .before .before .args .b .now) (c .before .before .before .before .before .before .before .before .before .t .given .0 .0) (subst (λ (r : Sections). TableIs (c .before .before .before .before .before .before .before .before .before .before .before .before .before .args .b .now) r) (c .before .before .before .before .before .before .before .before .before .t .given .1) (c .before .before .before .before .before .before .before .before .before .before .before .read-table .ensures)) (c .before .before .before .before .before .before .if1 .left) (sym (c .before .before .before .before .if2 .left) ∙ c .before .before .before .before .before .too-wide .ensures) (ap checkedAs (sym (c .before .enum-told2 .given .1)) ∙ c .before .before .before .check-rows .ensures))); holds = c .built-tree .ensures ∙ sym (ap (λ (b : Built). b .tree) (draft-built (c .before .before .before .before .before .before .before .before .before .before .before .before .before .args .b .now) (c .before .before .before .before .before .before .before .before .before .t .given .0 .0) (subst (λ (r : Sections). TableIs (c .before .before .before .before .before .before .before .before .before .before .before .before .before .args .b .now) r) (c .before .before .before .before .before .before .before .before .before .t .given .1) (c .before .before .before .before .before .before .before .before .before .before .before .read-table .ensures)) (c .before .before .before .before .before .before .if1 .left) (sym (c .before .before .before .before .if2 .left) ∙ c .before .before .before .before .before .too-wide .ensures) (ap checkedAs (sym (c .before .enum-told2 .given .1)) ∙ c .before .before .before .check-rows .ensures))) }
 
 pub build-spec : {M : Type 1} → statement M
 build-spec =

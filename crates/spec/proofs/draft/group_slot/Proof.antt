@@ -1,3 +1,9 @@
+use mathlib.Core.Path.{ap}
+use mathlib.Core.List.{List}
+use Prim.Native.Nat.{ℕ}
+use Rattle.rules.specs.Tree.{tabs}
+use Rattle.rules.specs.declared.model.TabBarPlacement.the-variants.{Hidden}
+use Rattle.spec.specs.SlotLaws.{not-over}
 use borrow.Author.Needs.{needs}
 use Rattle.spec.proofs.draft.group_slot.Statement.{statement}
 use Rattle.spec.proofs.draft.group_slot.Tie as tie
@@ -21,7 +27,7 @@ empty-requires-3 c κs = search needs
 
 -- src/draft.rt:31:1
 returns : tie.Need-returns
-returns c = ?
+returns c = record { view = ap (λ (l : List ℕ). tabs Hidden 0 l) (c .before .before .empty .ensures .list); fits = not-over (c .before .before .empty .result .len) (c .before .before .empty .ensures .few) }
 
 pub group-slot-spec : {M : Type 1} → statement M
 group-slot-spec = tie.close (tie.spec empty-requires empty-requires-2 empty-requires-3 returns)

@@ -1,3 +1,6 @@
+use mathlib.Core.Path.{refl}
+use Rattle.rules.specs.Tree.{tile}
+use Rattle.spec.specs.DraftLaws.{refused-nodes, refused-fits}
 use borrow.Author.Needs.{needs}
 use Rattle.spec.proofs.draft.refused.Statement.{statement}
 use Rattle.spec.proofs.draft.refused.Tie as tie
@@ -20,7 +23,7 @@ array-set-from-slots c = search needs
 
 -- src/draft.rt:48:1
 returns : tie.Need-returns
-returns c = ?
+returns c = record { says = refl; holds = λ j. record { root = tile 0; revision = 0; nodes = refused-nodes (c .before .empty-slot .result) (c .group-slot .result) (c .before .empty-slot .ensures) (c .group-slot .ensures) j; over = refused-fits (c .before .empty-slot .result) (c .group-slot .result) (c .before .empty-slot .ensures) (c .group-slot .ensures) j } }
 
 pub refused-spec : {M : Type 1} → statement M
 refused-spec =
