@@ -189,3 +189,10 @@ module _ (rows : List Row) (at n : ℕ) (kids₀ kids : List ℕ) (j next : ℕ)
           → pushSpec f (build (drop at rows) l ns) ≡ build (drop next rows) (leftOver (slice at next rows) l) (ns ++ nodesFrom kids at (slice at next rows) l)
       by zero l ns a g = absurd (omega arith)
       by (suc f) l ns a g = one f l ns a g
+
+-- the same, counted by the children that are left
+pub fill-counted : {rows : List Row} {at n : ℕ} {kids₀ kids : List ℕ} {next : ℕ} (left : ℕ) → 0 < left → left ≤ n → Filling rows at n kids₀ kids (n - left + 1) next → Filling rows at n kids₀ kids (n - (left - 1)) next
+fill-counted {rows} {at} {n} {kids₀} {kids} {next} left h g w = subst (λ (j : ℕ). Filling rows at n kids₀ kids j next) (let e : n - left + 1 ≡ n - (left - 1) = omega arith in e) w
+
+pub fill-none : {rows : List Row} {at n : ℕ} {kids₀ kids : List ℕ} {next : ℕ} → Filling rows at n kids₀ kids 0 next → Filling rows at n kids₀ kids (n - n) next
+fill-none {rows} {at} {n} {kids₀} {kids} {next} w = subst (λ (j : ℕ). Filling rows at n kids₀ kids j next) (let e : 0 ≡ n - n = omega arith in e) w

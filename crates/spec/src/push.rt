@@ -18,11 +18,12 @@ pub fn push_spec(b: &[u8], t: Places, kids: &mut [u64; 1024], at: usize) -> usiz
     let row = known_row(b, t, at);
     let n = children_used(row);
     let mut next = at + 1;
-    let mut j = 0usize;
-    while j < n {
+    let mut left = n;
+    while 0 < left {
+        let j = n - left;
         kids[16 * at + j] = next as u64;
         next = push_spec(b, t, kids, next);
-        j += 1;
+        left -= 1;
     }
     next
 }

@@ -4,9 +4,9 @@ ghost use Prim.Native.Nat.{_≤_};
 ghost use lib.ListN.{length};
 ghost use Rattle.spec.specs.Sections.{SectionAt, SectionsAre};
 
-// A section's entries start at a place; or the bytes end within it.
+// Where a section's entries start, and how many there are; or the bytes end within it.
 pub enum Found {
-    At { start: usize, count: usize },
+    At(usize, usize),
     Short,
 }
 
@@ -40,45 +40,27 @@ fn section_at(b: &[u8], p: usize) -> Found
     if size - p - 4 < 8 * n {
         return Found::Short;
     }
-    Found::At {
-        start: p + 4,
-        count: n,
-    }
+    Found::At(p + 4, n)
 }
 
 // Rows, panes, shares, minima, and nothing after them.
 pub fn find_sections(b: &[u8]) -> Sections
     ensures { λ r. ⌜ SectionsAre (now (b .entry)) r ⌝ }
 {
-    let Found::At {
-        start: rows,
-        count: row_count,
-    } = section_at(b, 0)
-    else {
+    let Found::At(rows, row_count) = section_at(b, 0) else {
         return Sections::Bad;
     };
-    let Found::At {
-        start: panes,
-        count: pane_count,
-    } = section_at(b, rows + 8 * row_count)
-    else {
+    let Found::At(panes, pane_count) = section_at(b, rows + 8 * row_count) else {
         return Sections::Bad;
     };
-    let Found::At {
-        start: shares,
-        count: share_count,
-    } = section_at(b, panes + 8 * pane_count)
-    else {
+    let Found::At(shares, share_count) = section_at(b, panes + 8 * pane_count) else {
         return Sections::Bad;
     };
-    let Found::At {
-        start: minima,
-        count: minimum_count,
-    } = section_at(b, shares + 8 * share_count)
-    else {
+    let Found::At(minima, minimum_count) = section_at(b, shares + 8 * share_count) else {
         return Sections::Bad;
     };
-    if minima + 8 * minimum_count != b.len() {
+    let end = minima + 8 * minimum_count;
+    if end != b.len() {
         return Sections::Bad;
     }
     Sections::Four(Places {

@@ -1,5 +1,5 @@
-use Prim.Native.Nat.{_+_, _*_, _-_, _≤_}
 use mathlib.Core.Path.{ap, _∙_}
+use Prim.Native.Nat.{_+_, _*_, _-_, _≤_}
 use native.Mathlib.Omega.{arith}
 use borrow.Author.Needs.{needs}
 use lib.ListN.{length-set}
@@ -8,7 +8,7 @@ use Rattle.spec.specs.Row.{rowIs}
 use Rattle.spec.specs.Rows.{rowFrom, rowsAt}
 use Rattle.spec.specs.Entries.{length-entries}
 use Rattle.spec.specs.PushLaws.{pushed-none, row-narrow}
-use Rattle.spec.specs.PushLoop.{Filling, fill-start, fill-more, fill-end}
+use Rattle.spec.specs.PushLoop.{Filling, fill-start, fill-none, fill-more, fill-counted, fill-end}
 use Prim.Native.Nat.{ℕ, _<_}
 use borrow.Fn.Kinds.{In}
 use borrow.Fn.PlainCycle.{Measures, is, falls, and}
@@ -31,10 +31,10 @@ push-spec-below t =
     and 2 push-spec-kinds.ps (falls 2 push-spec-kinds.ps _<_ μ-push-spec t) push-spec.Pre
 
 abbrev push-spec-Inv-loop : push-spec-lts.InvT-loop
-push-spec-Inv-loop b t kids₀ at n next₀ j₀ kids next j = Filling (rowsAt b t) at n kids₀ kids j next
+push-spec-Inv-loop b t kids₀ at n next₀ left₀ kids next left = (left ≤ n) × Filling (rowsAt b t) at n kids₀ kids (n - left) next
 
 abbrev push-spec-μ-loop : push-spec-lts.MeasureT-loop
-push-spec-μ-loop b t kids₀ at n next₀ j₀ kids next j = n - j
+push-spec-μ-loop b t kids₀ at n next₀ left₀ kids next left = left
 
 -- src/push.rt:16:9
 push-spec-returns : (t : ℕ) → push-spec-lts.Need-returns (
@@ -89,9 +89,20 @@ push-spec-loop-holds : (t : ℕ) → push-spec-lts.Need-loop-holds (
   push-spec-below t,
   push-spec.Post,
 ) (push-spec-at t) push-spec.Post push-spec-Inv-loop push-spec-μ-loop
-push-spec-loop-holds t c = fill-start (rowsAt (c .before .before .before .before .before .args .b .now) (c .before .before .before .before .before .args .t)) (c .before .before .before .before .before .args .at) (c .children-used .result) (c .before .before .before .before .before .args .kids .now) (let q = length-entries (c .before .before .before .before .before .args .b .now) ((c .before .before .before .before .before .args .t) .rows) ((c .before .before .before .before .before .args .t) .«row_count») rowFrom in omega (arith, c .before .before .if1 .left)) (c .before .before .before .before .before .pre .1 .size)
+push-spec-loop-holds t c = (omega arith, fill-none (fill-start (rowsAt (c .before .before .before .before .before .args .b .now) (c .before .before .before .before .before .args .t)) (c .before .before .before .before .before .args .at) (c .children-used .result) (c .before .before .before .before .before .args .kids .now) (let q = length-entries (c .before .before .before .before .before .args .b .now) ((c .before .before .before .before .before .args .t) .rows) ((c .before .before .before .before .before .args .t) .«row_count») rowFrom in omega (arith, c .before .before .if1 .left)) (c .before .before .before .before .before .pre .1 .size)))
 
--- src/push.rt:23:14
+-- src/push.rt:23:17
+push-spec-sub-j : (t : ℕ) → push-spec-lts.Need-sub-j (
+  known-row-reads.Asked,
+  known-row-reads.Learnt,
+  children-used-reads.Asked,
+  children-used-reads.Learnt,
+  push-spec-below t,
+  push-spec.Post,
+) (push-spec-at t) push-spec.Post push-spec-Inv-loop push-spec-μ-loop
+push-spec-sub-j t c = omega (arith, c .before .loop .inv .0)
+
+-- src/push.rt:24:14
 push-spec-mul-kids : (t : ℕ) → push-spec-lts.Need-mul-kids (
   known-row-reads.Asked,
   known-row-reads.Learnt,
@@ -100,9 +111,9 @@ push-spec-mul-kids : (t : ℕ) → push-spec-lts.Need-mul-kids (
   push-spec-below t,
   push-spec.Post,
 ) (push-spec-at t) push-spec.Post push-spec-Inv-loop push-spec-μ-loop
-push-spec-mul-kids t c = let few : (c .before .before .children-used .result) ≤ 16 = (let q = row-narrow (rowsAt (c .before .before .before .before .before .before .before .args .b .now) (c .before .before .before .before .before .before .before .args .t)) (c .before .before .before .before .before .before .before .args .at) paneRow (let q = length-entries (c .before .before .before .before .before .before .before .args .b .now) ((c .before .before .before .before .before .before .before .args .t) .rows) ((c .before .before .before .before .before .before .before .args .t) .«row_count») rowFrom in omega (arith, c .before .before .before .before .if1 .left)) (c .before .before .before .before .before .before .before .pre .1 .narrow) in omega (arith, c .before .before .children-used .ensures, ap childrenUsed (c .before .before .before .known-row .ensures))) in omega (arith, c .before .before .before .before .if1 .left, c .before .before .before .before .before .before .before .pre .1 .few, c .loop-test .taken)
+push-spec-mul-kids t c = let few : (c .before .before .children-used .result) ≤ 16 = (let q = row-narrow (rowsAt (c .before .before .before .before .before .before .before .args .b .now) (c .before .before .before .before .before .before .before .args .t)) (c .before .before .before .before .before .before .before .args .at) paneRow (let q = length-entries (c .before .before .before .before .before .before .before .args .b .now) ((c .before .before .before .before .before .before .before .args .t) .rows) ((c .before .before .before .before .before .before .before .args .t) .«row_count») rowFrom in omega (arith, c .before .before .before .before .if1 .left)) (c .before .before .before .before .before .before .before .pre .1 .narrow) in omega (arith, c .before .before .children-used .ensures, ap childrenUsed (c .before .before .before .known-row .ensures))) in omega (arith, c .before .before .before .before .if1 .left, c .before .before .before .before .before .before .before .pre .1 .few, c .loop-test .taken, c .before .loop .inv .0)
 
--- src/push.rt:23:14
+-- src/push.rt:24:14
 push-spec-add-kids : (t : ℕ) → push-spec-lts.Need-add-kids (
   known-row-reads.Asked,
   known-row-reads.Learnt,
@@ -111,9 +122,9 @@ push-spec-add-kids : (t : ℕ) → push-spec-lts.Need-add-kids (
   push-spec-below t,
   push-spec.Post,
 ) (push-spec-at t) push-spec.Post push-spec-Inv-loop push-spec-μ-loop
-push-spec-add-kids t c = let few : (c .before .before .children-used .result) ≤ 16 = (let q = row-narrow (rowsAt (c .before .before .before .before .before .before .before .args .b .now) (c .before .before .before .before .before .before .before .args .t)) (c .before .before .before .before .before .before .before .args .at) paneRow (let q = length-entries (c .before .before .before .before .before .before .before .args .b .now) ((c .before .before .before .before .before .before .before .args .t) .rows) ((c .before .before .before .before .before .before .before .args .t) .«row_count») rowFrom in omega (arith, c .before .before .before .before .if1 .left)) (c .before .before .before .before .before .before .before .pre .1 .narrow) in omega (arith, c .before .before .children-used .ensures, ap childrenUsed (c .before .before .before .known-row .ensures))) in omega (arith, c .before .before .before .before .if1 .left, c .before .before .before .before .before .before .before .pre .1 .few, c .loop-test .taken)
+push-spec-add-kids t c = let few : (c .before .before .children-used .result) ≤ 16 = (let q = row-narrow (rowsAt (c .before .before .before .before .before .before .before .args .b .now) (c .before .before .before .before .before .before .before .args .t)) (c .before .before .before .before .before .before .before .args .at) paneRow (let q = length-entries (c .before .before .before .before .before .before .before .args .b .now) ((c .before .before .before .before .before .before .before .args .t) .rows) ((c .before .before .before .before .before .before .before .args .t) .«row_count») rowFrom in omega (arith, c .before .before .before .before .if1 .left)) (c .before .before .before .before .before .before .before .pre .1 .narrow) in omega (arith, c .before .before .children-used .ensures, ap childrenUsed (c .before .before .before .known-row .ensures))) in omega (arith, c .before .before .before .before .if1 .left, c .before .before .before .before .before .before .before .pre .1 .few, c .loop-test .taken, c .before .loop .inv .0)
 
--- src/push.rt:23:9
+-- src/push.rt:24:9
 push-spec-mul-kids-2 : (t : ℕ) → push-spec-lts.Need-mul-kids-2 (
   known-row-reads.Asked,
   known-row-reads.Learnt,
@@ -122,9 +133,9 @@ push-spec-mul-kids-2 : (t : ℕ) → push-spec-lts.Need-mul-kids-2 (
   push-spec-below t,
   push-spec.Post,
 ) (push-spec-at t) push-spec.Post push-spec-Inv-loop push-spec-μ-loop
-push-spec-mul-kids-2 t c = let few : (c .before .before .children-used .result) ≤ 16 = (let q = row-narrow (rowsAt (c .before .before .before .before .before .before .before .args .b .now) (c .before .before .before .before .before .before .before .args .t)) (c .before .before .before .before .before .before .before .args .at) paneRow (let q = length-entries (c .before .before .before .before .before .before .before .args .b .now) ((c .before .before .before .before .before .before .before .args .t) .rows) ((c .before .before .before .before .before .before .before .args .t) .«row_count») rowFrom in omega (arith, c .before .before .before .before .if1 .left)) (c .before .before .before .before .before .before .before .pre .1 .narrow) in omega (arith, c .before .before .children-used .ensures, ap childrenUsed (c .before .before .before .known-row .ensures))) in omega (arith, c .before .before .before .before .if1 .left, c .before .before .before .before .before .before .before .pre .1 .few, c .loop-test .taken)
+push-spec-mul-kids-2 t c = let few : (c .before .before .children-used .result) ≤ 16 = (let q = row-narrow (rowsAt (c .before .before .before .before .before .before .before .args .b .now) (c .before .before .before .before .before .before .before .args .t)) (c .before .before .before .before .before .before .before .args .at) paneRow (let q = length-entries (c .before .before .before .before .before .before .before .args .b .now) ((c .before .before .before .before .before .before .before .args .t) .rows) ((c .before .before .before .before .before .before .before .args .t) .«row_count») rowFrom in omega (arith, c .before .before .before .before .if1 .left)) (c .before .before .before .before .before .before .before .pre .1 .narrow) in omega (arith, c .before .before .children-used .ensures, ap childrenUsed (c .before .before .before .known-row .ensures))) in omega (arith, c .before .before .before .before .if1 .left, c .before .before .before .before .before .before .before .pre .1 .few, c .loop-test .taken, c .before .loop .inv .0)
 
--- src/push.rt:23:9
+-- src/push.rt:24:9
 push-spec-element-write-kids : (t : ℕ) → push-spec-lts.Need-element-write-kids (
   known-row-reads.Asked,
   known-row-reads.Learnt,
@@ -133,9 +144,9 @@ push-spec-element-write-kids : (t : ℕ) → push-spec-lts.Need-element-write-ki
   push-spec-below t,
   push-spec.Post,
 ) (push-spec-at t) push-spec.Post push-spec-Inv-loop push-spec-μ-loop
-push-spec-element-write-kids t c = let few : (c .before .before .children-used .result) ≤ 16 = (let q = row-narrow (rowsAt (c .before .before .before .before .before .before .before .args .b .now) (c .before .before .before .before .before .before .before .args .t)) (c .before .before .before .before .before .before .before .args .at) paneRow (let q = length-entries (c .before .before .before .before .before .before .before .args .b .now) ((c .before .before .before .before .before .before .before .args .t) .rows) ((c .before .before .before .before .before .before .before .args .t) .«row_count») rowFrom in omega (arith, c .before .before .before .before .if1 .left)) (c .before .before .before .before .before .before .before .pre .1 .narrow) in omega (arith, c .before .before .children-used .ensures, ap childrenUsed (c .before .before .before .known-row .ensures))) in omega (arith, c .before .before .before .before .if1 .left, c .before .before .before .before .before .before .before .pre .1 .few, c .loop-test .taken, c .before .loop .inv .size)
+push-spec-element-write-kids t c = let few : (c .before .before .children-used .result) ≤ 16 = (let q = row-narrow (rowsAt (c .before .before .before .before .before .before .before .args .b .now) (c .before .before .before .before .before .before .before .args .t)) (c .before .before .before .before .before .before .before .args .at) paneRow (let q = length-entries (c .before .before .before .before .before .before .before .args .b .now) ((c .before .before .before .before .before .before .before .args .t) .rows) ((c .before .before .before .before .before .before .before .args .t) .«row_count») rowFrom in omega (arith, c .before .before .before .before .if1 .left)) (c .before .before .before .before .before .before .before .pre .1 .narrow) in omega (arith, c .before .before .children-used .ensures, ap childrenUsed (c .before .before .before .known-row .ensures))) in omega (arith, c .before .before .before .before .if1 .left, c .before .before .before .before .before .before .before .pre .1 .few, c .loop-test .taken, c .before .loop .inv .0, c .before .loop .inv .1 .size)
 
--- src/push.rt:24:9
+-- src/push.rt:25:9
 push-spec-push-spec-requires : (t : ℕ) → push-spec-lts.Need-push-spec-requires (
   known-row-reads.Asked,
   known-row-reads.Learnt,
@@ -144,10 +155,10 @@ push-spec-push-spec-requires : (t : ℕ) → push-spec-lts.Need-push-spec-requir
   push-spec-below t,
   push-spec.Post,
 ) (push-spec-at t) push-spec.Post push-spec-Inv-loop push-spec-μ-loop
-push-spec-push-spec-requires t c κs = let q = length-entries (c .before .before .before .before .before .before .before .before .args .b .now) ((c .before .before .before .before .before .before .before .before .args .t) .rows) ((c .before .before .before .before .before .before .before .before .args .t) .«row_count») rowFrom in (omega (arith, c .before .before .before .before .before .before .before .before .pre .0, c .before .before .loop .inv .low, c .before .before .loop .inv .high, c .before .before .before .before .before .if1 .left), record { placed = c .before .before .before .before .before .before .before .before .pre .1 .placed; few = c .before .before .before .before .before .before .before .before .pre .1 .few; narrow = c .before .before .before .before .before .before .before .before .pre .1 .narrow; within = omega (arith, c .before .before .loop .inv .high); size = length-set (c .before .before .loop .kids) (16 * (c .before .before .before .before .before .before .before .before .args .at) + c .before .before .loop .j) (c .before .before .loop .next) ∙ c .before .before .loop .inv .size })
+push-spec-push-spec-requires t c κs = let q = length-entries (c .before .before .before .before .before .before .before .before .args .b .now) ((c .before .before .before .before .before .before .before .before .args .t) .rows) ((c .before .before .before .before .before .before .before .before .args .t) .«row_count») rowFrom in (omega (arith, c .before .before .before .before .before .before .before .before .pre .0, c .before .before .loop .inv .1 .low, c .before .before .loop .inv .1 .high, c .before .before .before .before .before .if1 .left), record { placed = c .before .before .before .before .before .before .before .before .pre .1 .placed; few = c .before .before .before .before .before .before .before .before .pre .1 .few; narrow = c .before .before .before .before .before .before .before .before .pre .1 .narrow; within = omega (arith, c .before .before .loop .inv .1 .high); size = length-set (c .before .before .loop .kids) (16 * (c .before .before .before .before .before .before .before .before .args .at) + ((c .before .before .before .children-used .result) - c .before .before .loop .left)) (c .before .before .loop .next) ∙ c .before .before .loop .inv .1 .size })
 
--- src/push.rt:25:9
-push-spec-add-j : (t : ℕ) → push-spec-lts.Need-add-j (
+-- src/push.rt:26:9
+push-spec-sub-left : (t : ℕ) → push-spec-lts.Need-sub-left (
   known-row-reads.Asked,
   known-row-reads.Learnt,
   children-used-reads.Asked,
@@ -155,7 +166,7 @@ push-spec-add-j : (t : ℕ) → push-spec-lts.Need-add-j (
   push-spec-below t,
   push-spec.Post,
 ) (push-spec-at t) push-spec.Post push-spec-Inv-loop push-spec-μ-loop
-push-spec-add-j t c = let few : (c .before .before .before .before .children-used .result) ≤ 16 = (let q = row-narrow (rowsAt (c .before .before .before .before .before .before .before .before .before .args .b .now) (c .before .before .before .before .before .before .before .before .before .args .t)) (c .before .before .before .before .before .before .before .before .before .args .at) paneRow (let q = length-entries (c .before .before .before .before .before .before .before .before .before .args .b .now) ((c .before .before .before .before .before .before .before .before .before .args .t) .rows) ((c .before .before .before .before .before .before .before .before .before .args .t) .«row_count») rowFrom in omega (arith, c .before .before .before .before .before .before .if1 .left)) (c .before .before .before .before .before .before .before .before .before .pre .1 .narrow) in omega (arith, c .before .before .before .before .children-used .ensures, ap childrenUsed (c .before .before .before .before .before .known-row .ensures))) in omega (arith, c .before .before .before .before .before .before .if1 .left, c .before .before .before .before .before .before .before .before .before .pre .1 .few, c .before .before .loop-test .taken)
+push-spec-sub-left t c = omega (arith, c .before .before .loop-test .taken)
 
 -- src/push.rt:22:5
 push-spec-loop-less : (t : ℕ) → push-spec-lts.Need-loop-less (
@@ -177,7 +188,7 @@ push-spec-loop-again : (t : ℕ) → push-spec-lts.Need-loop-again (
   push-spec-below t,
   push-spec.Post,
 ) (push-spec-at t) push-spec.Post push-spec-Inv-loop push-spec-μ-loop
-push-spec-loop-again t c = fill-more (rowsAt (c .before .before .before .before .before .before .before .before .before .args .b .now) (c .before .before .before .before .before .before .before .before .before .args .t)) (c .before .before .before .before .before .before .before .before .before .args .at) (c .before .before .before .before .children-used .result) (c .before .before .before .before .before .before .before .before .before .args .kids .now) (c .before .before .before .loop .kids) _ (c .before .before .before .loop .j) (c .before .before .before .loop .next) (c .push-spec .result) (c .before .before .before .loop .inv) (c .before .before .loop-test .taken) (let q = row-narrow (rowsAt (c .before .before .before .before .before .before .before .before .before .args .b .now) (c .before .before .before .before .before .before .before .before .before .args .t)) (c .before .before .before .before .before .before .before .before .before .args .at) paneRow (let q = length-entries (c .before .before .before .before .before .before .before .before .before .args .b .now) ((c .before .before .before .before .before .before .before .before .before .args .t) .rows) ((c .before .before .before .before .before .before .before .before .before .args .t) .«row_count») rowFrom in omega (arith, c .before .before .before .before .before .before .if1 .left)) (c .before .before .before .before .before .before .before .before .before .pre .1 .narrow) in omega (arith, c .before .before .before .before .children-used .ensures, ap childrenUsed (c .before .before .before .before .before .known-row .ensures))) (omega (arith, c .before .before .before .before .before .before .if1 .left, c .before .before .before .before .before .before .before .before .before .pre .1 .few)) (c .before .before .before .before .before .before .before .before .before .pre .1 .narrow) (c .push-spec .ensures)
+push-spec-loop-again t c = (omega (arith, c .before .before .before .loop .inv .0), fill-counted (c .before .before .before .loop .left) (c .before .before .loop-test .taken) (c .before .before .before .loop .inv .0) (fill-more (rowsAt (c .before .before .before .before .before .before .before .before .before .args .b .now) (c .before .before .before .before .before .before .before .before .before .args .t)) (c .before .before .before .before .before .before .before .before .before .args .at) (c .before .before .before .before .children-used .result) (c .before .before .before .before .before .before .before .before .before .args .kids .now) (c .before .before .before .loop .kids) _ ((c .before .before .before .before .children-used .result) - c .before .before .before .loop .left) (c .before .before .before .loop .next) (c .push-spec .result) (c .before .before .before .loop .inv .1) (omega (arith, c .before .before .loop-test .taken, c .before .before .before .loop .inv .0)) (let q = row-narrow (rowsAt (c .before .before .before .before .before .before .before .before .before .args .b .now) (c .before .before .before .before .before .before .before .before .before .args .t)) (c .before .before .before .before .before .before .before .before .before .args .at) paneRow (let q = length-entries (c .before .before .before .before .before .before .before .before .before .args .b .now) ((c .before .before .before .before .before .before .before .before .before .args .t) .rows) ((c .before .before .before .before .before .before .before .before .before .args .t) .«row_count») rowFrom in omega (arith, c .before .before .before .before .before .before .if1 .left)) (c .before .before .before .before .before .before .before .before .before .pre .1 .narrow) in omega (arith, c .before .before .before .before .children-used .ensures, ap childrenUsed (c .before .before .before .before .before .known-row .ensures))) (omega (arith, c .before .before .before .before .before .before .if1 .left, c .before .before .before .before .before .before .before .before .before .pre .1 .few)) (c .before .before .before .before .before .before .before .before .before .pre .1 .narrow) (c .push-spec .ensures)))
 
 -- src/push.rt:11:1
 push-spec-returns-2 : (t : ℕ) → push-spec-lts.Need-returns-2 (
@@ -188,7 +199,7 @@ push-spec-returns-2 : (t : ℕ) → push-spec-lts.Need-returns-2 (
   push-spec-below t,
   push-spec.Post,
 ) (push-spec-at t) push-spec.Post push-spec-Inv-loop push-spec-μ-loop
-push-spec-returns-2 t c = fill-end (rowsAt (c .before .before .before .before .before .before .before .args .b .now) (c .before .before .before .before .before .before .before .args .t)) (c .before .before .before .before .before .before .before .args .at) (c .before .before .children-used .result) (c .before .before .before .before .before .before .before .args .kids .now) (c .before .loop .kids) (c .before .loop .j) (c .before .loop .next) (rowIs (c .before .before .before .known-row .result)) (c .before .loop .inv) (c .loop-test .left) (let q = length-entries (c .before .before .before .before .before .before .before .args .b .now) ((c .before .before .before .before .before .before .before .args .t) .rows) ((c .before .before .before .before .before .before .before .args .t) .«row_count») rowFrom in omega (arith, c .before .before .before .before .if1 .left)) (c .before .before .before .known-row .ensures) (c .before .before .children-used .ensures)
+push-spec-returns-2 t c = fill-end (rowsAt (c .before .before .before .before .before .before .before .args .b .now) (c .before .before .before .before .before .before .before .args .t)) (c .before .before .before .before .before .before .before .args .at) (c .before .before .children-used .result) (c .before .before .before .before .before .before .before .args .kids .now) (c .before .loop .kids) ((c .before .before .children-used .result) - c .before .loop .left) (c .before .loop .next) (rowIs (c .before .before .before .known-row .result)) (c .before .loop .inv .1) (omega (arith, c .loop-test .left)) (let q = length-entries (c .before .before .before .before .before .before .before .args .b .now) ((c .before .before .before .before .before .before .before .args .t) .rows) ((c .before .before .before .before .before .before .before .args .t) .«row_count») rowFrom in omega (arith, c .before .before .before .before .if1 .left)) (c .before .before .before .known-row .ensures) (c .before .before .children-used .ensures)
 
 pub +push-spec-spec : {M : Type 1} → statement M
 +push-spec-spec = close μ-push-spec λ t. push-spec-lts.spec (
@@ -208,12 +219,13 @@ pub +push-spec-spec : {M : Type 1} → statement M
     (push-spec-children-used-requires t)
     (push-spec-add-next t)
     (push-spec-loop-holds t)
+    (push-spec-sub-j t)
     (push-spec-mul-kids t)
     (push-spec-add-kids t)
     (push-spec-mul-kids-2 t)
     (push-spec-element-write-kids t)
     (push-spec-push-spec-requires t)
-    (push-spec-add-j t)
+    (push-spec-sub-left t)
     (push-spec-loop-less t)
     (push-spec-loop-again t)
     (push-spec-returns-2 t)

@@ -11,107 +11,107 @@ use Rattle.spec.proofs.table.find_sections.Reads as reads
 use Rattle.spec.proofs.table.find_sections.Lts as lts
 use Rattle.spec.proofs.table.section_at.Reads as section-at-reads
 
--- src/table.rt:56:9
+-- src/table.rt:50:38
 section-at-requires : tie.Need-section-at-requires
 section-at-requires c κs = search needs
 
--- src/table.rt:54:16
+-- src/table.rt:50:19
 enum-known-rows : tie.Need-enum-known-rows
 enum-known-rows c = search needs
 
--- src/table.rt:58:9
+-- src/table.rt:51:9
 enum-told : tie.Need-enum-told
 enum-told c = search needs
 
--- src/table.rt:58:9
+-- src/table.rt:51:9
 returns : tie.Need-returns
 returns c = bad-rows (c .before .before .before .before .args .b .now) (subst (λ (f : Found). SectionAt (c .before .before .before .before .args .b .now) 0 f) (c .enum-told .given .1) (c .before .before .section-at .ensures) .is)
 
--- src/table.rt:63:30
+-- src/table.rt:53:61
 mul-section-at : tie.Need-mul-section-at
 mul-section-at c = omega (arith, (subst (λ (f : Found). SectionAt (c .before .before .before .before .before .args .b .now) 0 f) (c .before .rows .given .1) (c .before .before .before .section-at .ensures)) .here .few)
 
--- src/table.rt:63:23
+-- src/table.rt:53:54
 add-section-at : tie.Need-add-section-at
 add-section-at c = omega (arith, (subst (λ (f : Found). SectionAt (c .before .before .before .before .before .args .b .now) 0 f) (c .before .rows .given .1) (c .before .before .before .section-at .ensures)) .here .inside)
 
--- src/table.rt:63:9
+-- src/table.rt:53:40
 section-at-requires-2 : tie.Need-section-at-requires-2
 section-at-requires-2 c κs = (subst (λ (f : Found). SectionAt (c .before .before .before .before .before .args .b .now) 0 f) (c .before .rows .given .1) (c .before .before .before .section-at .ensures)) .here .inside
 
--- src/table.rt:61:16
+-- src/table.rt:53:19
 enum-known-panes : tie.Need-enum-known-panes
 enum-known-panes c = search needs
 
--- src/table.rt:65:9
+-- src/table.rt:54:9
 enum-told-2 : tie.Need-enum-told-2
 enum-told-2 c = search needs
 
--- src/table.rt:65:9
+-- src/table.rt:54:9
 returns-2 : tie.Need-returns-2
 returns-2 c = bad-panes (c .before .before .before .before .before .before .before .before .args .b .now) (c .before .before .before .before .rows .given .0 .0) (c .before .before .before .before .rows .given .0 .1 .0) ((subst (λ (f : Found). SectionAt (c .before .before .before .before .before .before .before .before .args .b .now) 0 f) (c .before .before .before .before .rows .given .1) (c .before .before .before .before .before .before .section-at .ensures)) .is) (subst (λ (f : Found). SectionAt (c .before .before .before .before .before .before .before .before .args .b .now) ((c .before .before .before .before .rows .given .0 .0) + 8 * (c .before .before .before .before .rows .given .0 .1 .0)) f) (c .enum-told2 .given .1) (c .before .before .section-at2 .ensures) .is)
 
--- src/table.rt:70:31
+-- src/table.rt:56:64
 mul-section-at-2 : tie.Need-mul-section-at-2
 mul-section-at-2 c = omega (arith, (subst (λ (f : Found). SectionAt (c .before .before .before .before .before .before .before .before .before .args .b .now) ((c .before .before .before .before .before .rows .given .0 .0) + 8 * (c .before .before .before .before .before .rows .given .0 .1 .0)) f) (c .before .panes .given .1) (c .before .before .before .section-at2 .ensures)) .here .few)
 
--- src/table.rt:70:23
+-- src/table.rt:56:56
 add-section-at-2 : tie.Need-add-section-at-2
 add-section-at-2 c = omega (arith, (subst (λ (f : Found). SectionAt (c .before .before .before .before .before .before .before .before .before .args .b .now) ((c .before .before .before .before .before .rows .given .0 .0) + 8 * (c .before .before .before .before .before .rows .given .0 .1 .0)) f) (c .before .panes .given .1) (c .before .before .before .section-at2 .ensures)) .here .inside)
 
--- src/table.rt:70:9
+-- src/table.rt:56:42
 section-at-requires-3 : tie.Need-section-at-requires-3
 section-at-requires-3 c κs = (subst (λ (f : Found). SectionAt (c .before .before .before .before .before .before .before .before .before .args .b .now) ((c .before .before .before .before .before .rows .given .0 .0) + 8 * (c .before .before .before .before .before .rows .given .0 .1 .0)) f) (c .before .panes .given .1) (c .before .before .before .section-at2 .ensures)) .here .inside
 
--- src/table.rt:68:16
+-- src/table.rt:56:19
 enum-known-shares : tie.Need-enum-known-shares
 enum-known-shares c = search needs
 
--- src/table.rt:72:9
+-- src/table.rt:57:9
 enum-told-3 : tie.Need-enum-told-3
 enum-told-3 c = search needs
 
--- src/table.rt:72:9
+-- src/table.rt:57:9
 returns-3 : tie.Need-returns-3
 returns-3 c = bad-shares (c .before .before .before .before .before .before .before .before .before .before .before .before .args .b .now) (c .before .before .before .before .before .before .before .before .rows .given .0 .0) (c .before .before .before .before .before .before .before .before .rows .given .0 .1 .0) ((subst (λ (f : Found). SectionAt (c .before .before .before .before .before .before .before .before .before .before .before .before .args .b .now) 0 f) (c .before .before .before .before .before .before .before .before .rows .given .1) (c .before .before .before .before .before .before .before .before .before .before .section-at .ensures)) .is) (c .before .before .before .before .panes .given .0 .0) (c .before .before .before .before .panes .given .0 .1 .0) ((subst (λ (f : Found). SectionAt (c .before .before .before .before .before .before .before .before .before .before .before .before .args .b .now) ((c .before .before .before .before .before .before .before .before .rows .given .0 .0) + 8 * (c .before .before .before .before .before .before .before .before .rows .given .0 .1 .0)) f) (c .before .before .before .before .panes .given .1) (c .before .before .before .before .before .before .section-at2 .ensures)) .is) (subst (λ (f : Found). SectionAt (c .before .before .before .before .before .before .before .before .before .before .before .before .args .b .now) ((c .before .before .before .before .panes .given .0 .0) + 8 * (c .before .before .before .before .panes .given .0 .1 .0)) f) (c .enum-told3 .given .1) (c .before .before .section-at3 .ensures) .is)
 
--- src/table.rt:77:32
+-- src/table.rt:59:67
 mul-section-at-3 : tie.Need-mul-section-at-3
 mul-section-at-3 c = omega (arith, (subst (λ (f : Found). SectionAt (c .before .before .before .before .before .before .before .before .before .before .before .before .before .args .b .now) ((c .before .before .before .before .before .panes .given .0 .0) + 8 * (c .before .before .before .before .before .panes .given .0 .1 .0)) f) (c .before .shares .given .1) (c .before .before .before .section-at3 .ensures)) .here .few)
 
--- src/table.rt:77:23
+-- src/table.rt:59:58
 add-section-at-3 : tie.Need-add-section-at-3
 add-section-at-3 c = omega (arith, (subst (λ (f : Found). SectionAt (c .before .before .before .before .before .before .before .before .before .before .before .before .before .args .b .now) ((c .before .before .before .before .before .panes .given .0 .0) + 8 * (c .before .before .before .before .before .panes .given .0 .1 .0)) f) (c .before .shares .given .1) (c .before .before .before .section-at3 .ensures)) .here .inside)
 
--- src/table.rt:77:9
+-- src/table.rt:59:44
 section-at-requires-4 : tie.Need-section-at-requires-4
 section-at-requires-4 c κs = (subst (λ (f : Found). SectionAt (c .before .before .before .before .before .before .before .before .before .before .before .before .before .args .b .now) ((c .before .before .before .before .before .panes .given .0 .0) + 8 * (c .before .before .before .before .before .panes .given .0 .1 .0)) f) (c .before .shares .given .1) (c .before .before .before .section-at3 .ensures)) .here .inside
 
--- src/table.rt:75:16
+-- src/table.rt:59:19
 enum-known-minima : tie.Need-enum-known-minima
 enum-known-minima c = search needs
 
--- src/table.rt:79:9
+-- src/table.rt:60:9
 enum-told-4 : tie.Need-enum-told-4
 enum-told-4 c = search needs
 
--- src/table.rt:79:9
+-- src/table.rt:60:9
 returns-4 : tie.Need-returns-4
 returns-4 c = bad-minima (c .before .before .before .before .before .before .before .before .before .before .before .before .before .before .before .before .args .b .now) (c .before .before .before .before .before .before .before .before .before .before .before .before .rows .given .0 .0) (c .before .before .before .before .before .before .before .before .before .before .before .before .rows .given .0 .1 .0) ((subst (λ (f : Found). SectionAt (c .before .before .before .before .before .before .before .before .before .before .before .before .before .before .before .before .args .b .now) 0 f) (c .before .before .before .before .before .before .before .before .before .before .before .before .rows .given .1) (c .before .before .before .before .before .before .before .before .before .before .before .before .before .before .section-at .ensures)) .is) (c .before .before .before .before .before .before .before .before .panes .given .0 .0) (c .before .before .before .before .before .before .before .before .panes .given .0 .1 .0) ((subst (λ (f : Found). SectionAt (c .before .before .before .before .before .before .before .before .before .before .before .before .before .before .before .before .args .b .now) ((c .before .before .before .before .before .before .before .before .before .before .before .before .rows .given .0 .0) + 8 * (c .before .before .before .before .before .before .before .before .before .before .before .before .rows .given .0 .1 .0)) f) (c .before .before .before .before .before .before .before .before .panes .given .1) (c .before .before .before .before .before .before .before .before .before .before .section-at2 .ensures)) .is) (c .before .before .before .before .shares .given .0 .0) (c .before .before .before .before .shares .given .0 .1 .0) ((subst (λ (f : Found). SectionAt (c .before .before .before .before .before .before .before .before .before .before .before .before .before .before .before .before .args .b .now) ((c .before .before .before .before .before .before .before .before .panes .given .0 .0) + 8 * (c .before .before .before .before .before .before .before .before .panes .given .0 .1 .0)) f) (c .before .before .before .before .shares .given .1) (c .before .before .before .before .before .before .section-at3 .ensures)) .is) (subst (λ (f : Found). SectionAt (c .before .before .before .before .before .before .before .before .before .before .before .before .before .before .before .before .args .b .now) ((c .before .before .before .before .shares .given .0 .0) + 8 * (c .before .before .before .before .shares .given .0 .1 .0)) f) (c .enum-told4 .given .1) (c .before .before .section-at4 .ensures) .is)
 
--- src/table.rt:81:17
-mul-if1 : tie.Need-mul-if1
-mul-if1 c = omega (arith, (subst (λ (f : Found). SectionAt (c .before .before .before .before .before .before .before .before .before .before .before .before .before .before .before .before .before .args .b .now) ((c .before .before .before .before .before .shares .given .0 .0) + 8 * (c .before .before .before .before .before .shares .given .0 .1 .0)) f) (c .before .minima .given .1) (c .before .before .before .section-at4 .ensures)) .here .few)
+-- src/table.rt:62:24
+mul-end : tie.Need-mul-end
+mul-end c = omega (arith, (subst (λ (f : Found). SectionAt (c .before .before .before .before .before .before .before .before .before .before .before .before .before .before .before .before .before .args .b .now) ((c .before .before .before .before .before .shares .given .0 .0) + 8 * (c .before .before .before .before .before .shares .given .0 .1 .0)) f) (c .before .minima .given .1) (c .before .before .before .section-at4 .ensures)) .here .few)
 
--- src/table.rt:81:8
-add-if1 : tie.Need-add-if1
-add-if1 c = omega (arith, (subst (λ (f : Found). SectionAt (c .before .before .before .before .before .before .before .before .before .before .before .before .before .before .before .before .before .args .b .now) ((c .before .before .before .before .before .shares .given .0 .0) + 8 * (c .before .before .before .before .before .shares .given .0 .1 .0)) f) (c .before .minima .given .1) (c .before .before .before .section-at4 .ensures)) .here .inside)
+-- src/table.rt:62:15
+add-end : tie.Need-add-end
+add-end c = omega (arith, (subst (λ (f : Found). SectionAt (c .before .before .before .before .before .before .before .before .before .before .before .before .before .before .before .before .before .args .b .now) ((c .before .before .before .before .before .shares .given .0 .0) + 8 * (c .before .before .before .before .before .shares .given .0 .1 .0)) f) (c .before .minima .given .1) (c .before .before .before .section-at4 .ensures)) .here .inside)
 
--- src/table.rt:82:9
+-- src/table.rt:64:9
 returns-5 : tie.Need-returns-5
 returns-5 c = trailing (c .before .before .before .before .before .before .before .before .before .before .before .before .before .before .before .before .before .before .args .b .now) (c .before .before .before .before .before .before .before .before .before .before .before .before .before .before .rows .given .0 .0) (c .before .before .before .before .before .before .before .before .before .before .before .before .before .before .rows .given .0 .1 .0) ((subst (λ (f : Found). SectionAt (c .before .before .before .before .before .before .before .before .before .before .before .before .before .before .before .before .before .before .args .b .now) 0 f) (c .before .before .before .before .before .before .before .before .before .before .before .before .before .before .rows .given .1) (c .before .before .before .before .before .before .before .before .before .before .before .before .before .before .before .before .section-at .ensures)) .is) (c .before .before .before .before .before .before .before .before .before .before .panes .given .0 .0) (c .before .before .before .before .before .before .before .before .before .before .panes .given .0 .1 .0) ((subst (λ (f : Found). SectionAt (c .before .before .before .before .before .before .before .before .before .before .before .before .before .before .before .before .before .before .args .b .now) ((c .before .before .before .before .before .before .before .before .before .before .before .before .before .before .rows .given .0 .0) + 8 * (c .before .before .before .before .before .before .before .before .before .before .before .before .before .before .rows .given .0 .1 .0)) f) (c .before .before .before .before .before .before .before .before .before .before .panes .given .1) (c .before .before .before .before .before .before .before .before .before .before .before .before .section-at2 .ensures)) .is) (c .before .before .before .before .before .before .shares .given .0 .0) (c .before .before .before .before .before .before .shares .given .0 .1 .0) ((subst (λ (f : Found). SectionAt (c .before .before .before .before .before .before .before .before .before .before .before .before .before .before .before .before .before .before .args .b .now) ((c .before .before .before .before .before .before .before .before .before .before .panes .given .0 .0) + 8 * (c .before .before .before .before .before .before .before .before .before .before .panes .given .0 .1 .0)) f) (c .before .before .before .before .before .before .shares .given .1) (c .before .before .before .before .before .before .before .before .section-at3 .ensures)) .is) (c .before .before .minima .given .0 .0) (c .before .before .minima .given .0 .1 .0) ((subst (λ (f : Found). SectionAt (c .before .before .before .before .before .before .before .before .before .before .before .before .before .before .before .before .before .before .args .b .now) ((c .before .before .before .before .before .before .shares .given .0 .0) + 8 * (c .before .before .before .before .before .before .shares .given .0 .1 .0)) f) (c .before .before .minima .given .1) (c .before .before .before .before .section-at4 .ensures)) .is) ((subst (λ (f : Found). SectionAt (c .before .before .before .before .before .before .before .before .before .before .before .before .before .before .before .before .before .before .args .b .now) ((c .before .before .before .before .before .before .shares .given .0 .0) + 8 * (c .before .before .before .before .before .before .shares .given .0 .1 .0)) f) (c .before .before .minima .given .1) (c .before .before .before .before .section-at4 .ensures)) .here .inside) (c .if1 .taken)
 
--- src/table.rt:50:1
+-- src/table.rt:47:1
 returns-6 : tie.Need-returns-6
 returns-6 c = no-more (c .before .before .before .before .before .before .before .before .before .before .before .before .before .before .before .before .before .before .args .b .now) (c .before .before .before .before .before .before .before .before .before .before .before .before .before .before .rows .given .0 .0) (c .before .before .before .before .before .before .before .before .before .before .before .before .before .before .rows .given .0 .1 .0) ((subst (λ (f : Found). SectionAt (c .before .before .before .before .before .before .before .before .before .before .before .before .before .before .before .before .before .before .args .b .now) 0 f) (c .before .before .before .before .before .before .before .before .before .before .before .before .before .before .rows .given .1) (c .before .before .before .before .before .before .before .before .before .before .before .before .before .before .before .before .section-at .ensures)) .is) (c .before .before .before .before .before .before .before .before .before .before .panes .given .0 .0) (c .before .before .before .before .before .before .before .before .before .before .panes .given .0 .1 .0) ((subst (λ (f : Found). SectionAt (c .before .before .before .before .before .before .before .before .before .before .before .before .before .before .before .before .before .before .args .b .now) ((c .before .before .before .before .before .before .before .before .before .before .before .before .before .before .rows .given .0 .0) + 8 * (c .before .before .before .before .before .before .before .before .before .before .before .before .before .before .rows .given .0 .1 .0)) f) (c .before .before .before .before .before .before .before .before .before .before .panes .given .1) (c .before .before .before .before .before .before .before .before .before .before .before .before .section-at2 .ensures)) .is) (c .before .before .before .before .before .before .shares .given .0 .0) (c .before .before .before .before .before .before .shares .given .0 .1 .0) ((subst (λ (f : Found). SectionAt (c .before .before .before .before .before .before .before .before .before .before .before .before .before .before .before .before .before .before .args .b .now) ((c .before .before .before .before .before .before .before .before .before .before .panes .given .0 .0) + 8 * (c .before .before .before .before .before .before .before .before .before .before .panes .given .0 .1 .0)) f) (c .before .before .before .before .before .before .shares .given .1) (c .before .before .before .before .before .before .before .before .section-at3 .ensures)) .is) (c .before .before .minima .given .0 .0) (c .before .before .minima .given .0 .1 .0) ((subst (λ (f : Found). SectionAt (c .before .before .before .before .before .before .before .before .before .before .before .before .before .before .before .before .before .before .args .b .now) ((c .before .before .before .before .before .before .shares .given .0 .0) + 8 * (c .before .before .before .before .before .before .shares .given .0 .1 .0)) f) (c .before .before .minima .given .1) (c .before .before .before .before .section-at4 .ensures)) .is) ((subst (λ (f : Found). SectionAt (c .before .before .before .before .before .before .before .before .before .before .before .before .before .before .before .before .before .before .args .b .now) 0 f) (c .before .before .before .before .before .before .before .before .before .before .before .before .before .before .rows .given .1) (c .before .before .before .before .before .before .before .before .before .before .before .before .before .before .before .before .section-at .ensures)) .here) ((subst (λ (f : Found). SectionAt (c .before .before .before .before .before .before .before .before .before .before .before .before .before .before .before .before .before .before .args .b .now) ((c .before .before .before .before .before .before .before .before .before .before .before .before .before .before .rows .given .0 .0) + 8 * (c .before .before .before .before .before .before .before .before .before .before .before .before .before .before .rows .given .0 .1 .0)) f) (c .before .before .before .before .before .before .before .before .before .before .panes .given .1) (c .before .before .before .before .before .before .before .before .before .before .before .before .section-at2 .ensures)) .here) ((subst (λ (f : Found). SectionAt (c .before .before .before .before .before .before .before .before .before .before .before .before .before .before .before .before .before .before .args .b .now) ((c .before .before .before .before .before .before .before .before .before .before .panes .given .0 .0) + 8 * (c .before .before .before .before .before .before .before .before .before .before .panes .given .0 .1 .0)) f) (c .before .before .before .before .before .before .shares .given .1) (c .before .before .before .before .before .before .before .before .section-at3 .ensures)) .here) ((subst (λ (f : Found). SectionAt (c .before .before .before .before .before .before .before .before .before .before .before .before .before .before .before .before .before .before .args .b .now) ((c .before .before .before .before .before .before .shares .given .0 .0) + 8 * (c .before .before .before .before .before .before .shares .given .0 .1 .0)) f) (c .before .before .minima .given .1) (c .before .before .before .before .section-at4 .ensures)) .here) (c .if1 .left)
 
@@ -141,7 +141,7 @@ find-sections-spec =
     enum-known-minima
     enum-told-4
     returns-4
-    mul-if1
-    add-if1
+    mul-end
+    add-end
     returns-5
     returns-6)

@@ -34,7 +34,7 @@ mul-if2 c = search needs
 returns-2 : tie.Need-returns-2
 returns-2 c = short-entries (c .before .before .before .before .args .b .now) (c .before .before .before .before .args .p) (c .before .count .result) (c .before .before .if1 .left) (c .before .count .ensures .0) (c .if2 .taken)
 
--- src/table.rt:44:16
+-- src/table.rt:43:15
 add-t5 : tie.Need-add-t5
 add-t5 c = search needs
 
