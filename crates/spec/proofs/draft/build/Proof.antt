@@ -34,7 +34,9 @@ refused-requires c κs = search needs
 
 -- src/draft.rt:86:9
 returns : tie.Need-returns
-returns c = subst (λ (b : Built). Drafted (c .refused .result .answer) (c .refused .result .tree) b) (draft-bad (c .before .before .before .before .before .args .b .now) (subst (λ (r : Sections). TableIs (c .before .before .before .before .before .args .b .now) r) (c .before .enum-told .given .1) (c .before .before .before .read-table .ensures))) (c .refused .ensures)
+returns c =
+    let bytes = c .before .before .before .before .before .args .b .now in
+    subst (λ (b : Built). Drafted (c .refused .result .answer) (c .refused .result .tree) b) (draft-bad bytes (subst (λ (r : Sections). TableIs bytes r) (c .before .enum-told .given .1) (c .before .before .before .read-table .ensures))) (c .refused .ensures)
 
 -- src/draft.rt:89:9
 refused-requires-2 : tie.Need-refused-requires-2
@@ -42,11 +44,18 @@ refused-requires-2 c κs = search needs
 
 -- src/draft.rt:89:9
 returns-2 : tie.Need-returns-2
-returns-2 c = subst (λ (b : Built). Drafted (c .refused2 .result .answer) (c .refused2 .result .tree) b) (draft-full (c .before .before .before .before .before .before .before .before .args .b .now) (c .before .before .before .before .t .given .0 .0) (subst (λ (r : Sections). TableIs (c .before .before .before .before .before .before .before .before .args .b .now) r) (c .before .before .before .before .t .given .1) (c .before .before .before .before .before .before .read-table .ensures)) (c .before .if1 .taken)) (c .refused2 .ensures)
+returns-2 c =
+    let bytes = c .before .before .before .before .before .before .before .before .args .b .now in
+    let t = c .before .before .before .before .t .given .0 .0 in
+    let w = subst (λ (r : Sections). TableIs bytes r) (c .before .before .before .before .t .given .1) (c .before .before .before .before .before .before .read-table .ensures) in
+    subst (λ (b : Built). Drafted (c .refused2 .result .answer) (c .refused2 .result .tree) b) (draft-full bytes t w (c .before .if1 .taken)) (c .refused2 .ensures)
 
 -- src/draft.rt:91:8
 too-wide-requires : tie.Need-too-wide-requires
-too-wide-requires c κs = (subst (λ (r : Sections). TableIs (c .before .before .before .before .before .before .before .args .b .now) r) (c .before .before .before .t .given .1) (c .before .before .before .before .before .read-table .ensures)) .placed
+too-wide-requires c κs =
+    let bytes = c .before .before .before .before .before .before .before .args .b .now in
+    let w = subst (λ (r : Sections). TableIs bytes r) (c .before .before .before .t .given .1) (c .before .before .before .before .before .read-table .ensures) in
+    w .placed
 
 -- src/draft.rt:92:9
 refused-requires-3 : tie.Need-refused-requires-3
@@ -54,11 +63,18 @@ refused-requires-3 c κs = search needs
 
 -- src/draft.rt:92:9
 returns-3 : tie.Need-returns-3
-returns-3 c = subst (λ (b : Built). Drafted (c .refused3 .result .answer) (c .refused3 .result .tree) b) (draft-wide (c .before .before .before .before .before .before .before .before .before .before .args .b .now) (c .before .before .before .before .before .before .t .given .0 .0) (subst (λ (r : Sections). TableIs (c .before .before .before .before .before .before .before .before .before .before .args .b .now) r) (c .before .before .before .before .before .before .t .given .1) (c .before .before .before .before .before .before .before .before .read-table .ensures)) (c .before .before .before .if1 .left) (sym (c .before .if2 .taken) ∙ c .before .before .too-wide .ensures)) (c .refused3 .ensures)
+returns-3 c =
+    let bytes = c .before .before .before .before .before .before .before .before .before .before .args .b .now in
+    let t = c .before .before .before .before .before .before .t .given .0 .0 in
+    let w = subst (λ (r : Sections). TableIs bytes r) (c .before .before .before .before .before .before .t .given .1) (c .before .before .before .before .before .before .before .before .read-table .ensures) in
+    subst (λ (b : Built). Drafted (c .refused3 .result .answer) (c .refused3 .result .tree) b) (draft-wide bytes t w (c .before .before .before .if1 .left) (sym (c .before .if2 .taken) ∙ c .before .before .too-wide .ensures)) (c .refused3 .ensures)
 
 -- src/draft.rt:94:30
 check-rows-requires : tie.Need-check-rows-requires
-check-rows-requires c κs = ((subst (λ (r : Sections). TableIs (c .before .before .before .before .before .before .before .before .before .args .b .now) r) (c .before .before .before .before .before .t .given .1) (c .before .before .before .before .before .before .before .read-table .ensures)) .placed, (subst (λ (r : Sections). TableIs (c .before .before .before .before .before .before .before .before .before .args .b .now) r) (c .before .before .before .before .before .t .given .1) (c .before .before .before .before .before .before .before .read-table .ensures)) .used)
+check-rows-requires c κs =
+    let bytes = c .before .before .before .before .before .before .before .before .before .args .b .now in
+    let w = subst (λ (r : Sections). TableIs bytes r) (c .before .before .before .before .before .t .given .1) (c .before .before .before .before .before .before .before .read-table .ensures) in
+    (w .placed, w .used)
 
 -- src/draft.rt:94:25
 enum-known-e : tie.Need-enum-known-e
@@ -70,18 +86,35 @@ refused-requires-4 c κs = search needs
 
 -- src/draft.rt:95:9
 returns-4 : tie.Need-returns-4
-returns-4 c = subst (λ (b : Built). Drafted (c .refused4 .result .answer) (c .refused4 .result .tree) b) (draft-refused (c .before .before .before .before .before .before .before .before .before .before .before .before .before .before .args .b .now) (c .before .before .before .before .before .before .before .before .before .before .t .given .0 .0) (subst (λ (r : Sections). TableIs (c .before .before .before .before .before .before .before .before .before .before .before .before .before .before .args .b .now) r) (c .before .before .before .before .before .before .before .before .before .before .t .given .1) (c .before .before .before .before .before .before .before .before .before .before .before .before .read-table .ensures)) (c .before .before .before .before .before .before .before .if1 .left) (sym (c .before .before .before .before .before .if2 .left) ∙ c .before .before .before .before .before .before .too-wide .ensures) (c .before .before .e .given .0 .0) (ap checkedAs (sym (c .before .before .e .given .1)) ∙ c .before .before .before .before .check-rows .ensures)) (c .refused4 .ensures)
+returns-4 c =
+    let bytes = c .before .before .before .before .before .before .before .before .before .before .before .before .before .before .args .b .now in
+    let t = c .before .before .before .before .before .before .before .before .before .before .t .given .0 .0 in
+    let w = subst (λ (r : Sections). TableIs bytes r) (c .before .before .before .before .before .before .before .before .before .before .t .given .1) (c .before .before .before .before .before .before .before .before .before .before .before .before .read-table .ensures) in
+    let g = sym (c .before .before .before .before .before .if2 .left) ∙ c .before .before .before .before .before .before .too-wide .ensures in
+    subst (λ (b : Built). Drafted (c .refused4 .result .answer) (c .refused4 .result .tree) b) (draft-refused bytes t w (c .before .before .before .before .before .before .before .if1 .left) g (c .before .before .e .given .0 .0) (ap checkedAs (sym (c .before .before .e .given .1)) ∙ c .before .before .before .before .check-rows .ensures)) (c .refused4 .ensures)
 
 enum-told-2 : tie.Need-enum-told-2
 enum-told-2 c = search needs
 
 -- src/draft.rt:97:9
 built-tree-requires : tie.Need-built-tree-requires
-built-tree-requires c κs = passed (c .before .before .before .before .before .before .before .before .before .before .before .before .args .b .now) (c .before .before .before .before .before .before .before .before .t .given .0 .0) (subst (λ (r : Sections). TableIs (c .before .before .before .before .before .before .before .before .before .before .before .before .args .b .now) r) (c .before .before .before .before .before .before .before .before .t .given .1) (c .before .before .before .before .before .before .before .before .before .before .read-table .ensures)) (c .before .before .before .before .before .if1 .left) (sym (c .before .before .before .if2 .left) ∙ c .before .before .before .before .too-wide .ensures) (ap checkedAs (sym (c .enum-told2 .given .1)) ∙ c .before .before .check-rows .ensures)
+built-tree-requires c κs =
+    let bytes = c .before .before .before .before .before .before .before .before .before .before .before .before .args .b .now in
+    let t = c .before .before .before .before .before .before .before .before .t .given .0 .0 in
+    let w = subst (λ (r : Sections). TableIs bytes r) (c .before .before .before .before .before .before .before .before .t .given .1) (c .before .before .before .before .before .before .before .before .before .before .read-table .ensures) in
+    let g = sym (c .before .before .before .if2 .left) ∙ c .before .before .before .before .too-wide .ensures in
+    let good = ap checkedAs (sym (c .enum-told2 .given .1)) ∙ c .before .before .check-rows .ensures in
+    passed bytes t w (c .before .before .before .before .before .if1 .left) g good
 
 -- src/draft.rt:82:1
 returns-5 : tie.Need-returns-5
-returns-5 c = record { says = sym (ap (λ (b : Built). b .answer) (draft-built (c .before .before .before .before .before .before .before .before .before .before .before .before .before .args .b .now) (c .before .before .before .before .before .before .before .before .before .t .given .0 .0) (subst (λ (r : Sections). TableIs (c .before .before .before .before .before .before .before .before .before .before .before .before .before .args .b .now) r) (c .before .before .before .before .before .before .before .before .before .t .given .1) (c .before .before .before .before .before .before .before .before .before .before .before .read-table .ensures)) (c .before .before .before .before .before .before .if1 .left) (sym (c .before .before .before .before .if2 .left) ∙ c .before .before .before .before .before .too-wide .ensures) (ap checkedAs (sym (c .before .enum-told2 .given .1)) ∙ c .before .before .before .check-rows .ensures))); holds = c .built-tree .ensures ∙ sym (ap (λ (b : Built). b .tree) (draft-built (c .before .before .before .before .before .before .before .before .before .before .before .before .before .args .b .now) (c .before .before .before .before .before .before .before .before .before .t .given .0 .0) (subst (λ (r : Sections). TableIs (c .before .before .before .before .before .before .before .before .before .before .before .before .before .args .b .now) r) (c .before .before .before .before .before .before .before .before .before .t .given .1) (c .before .before .before .before .before .before .before .before .before .before .before .read-table .ensures)) (c .before .before .before .before .before .before .if1 .left) (sym (c .before .before .before .before .if2 .left) ∙ c .before .before .before .before .before .too-wide .ensures) (ap checkedAs (sym (c .before .enum-told2 .given .1)) ∙ c .before .before .before .check-rows .ensures))) }
+returns-5 c =
+    let bytes = c .before .before .before .before .before .before .before .before .before .before .before .before .before .args .b .now in
+    let t = c .before .before .before .before .before .before .before .before .before .t .given .0 .0 in
+    let w = subst (λ (r : Sections). TableIs bytes r) (c .before .before .before .before .before .before .before .before .before .t .given .1) (c .before .before .before .before .before .before .before .before .before .before .before .read-table .ensures) in
+    let g = sym (c .before .before .before .before .if2 .left) ∙ c .before .before .before .before .before .too-wide .ensures in
+    let good = ap checkedAs (sym (c .before .enum-told2 .given .1)) ∙ c .before .before .before .check-rows .ensures in
+    record { says = sym (ap (λ (b : Built). b .answer) (draft-built bytes t w (c .before .before .before .before .before .before .if1 .left) g good)); holds = c .built-tree .ensures ∙ sym (ap (λ (b : Built). b .tree) (draft-built bytes t w (c .before .before .before .before .before .before .if1 .left) g good)) }
 
 pub build-spec : {M : Type 1} → statement M
 build-spec =

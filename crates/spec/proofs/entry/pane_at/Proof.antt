@@ -20,7 +20,11 @@ word-requires c κs = search needs
 
 -- src/entry.rt:30:1
 returns : tie.Need-returns
-returns c = number-entry (c .before .before .args .b .now) ((c .before .before .args .t) .panes) ((c .before .before .args .t) .«pane_count») (c .before .before .args .i) (c .before .before .pre .1) (c .word .result) (c .word .ensures)
+returns c =
+    let bytes = c .before .before .args .b .now in
+    let t = c .before .before .args .t in
+    let i = c .before .before .args .i in
+    number-entry bytes (t .panes) (t .«pane_count») i (c .before .before .pre .1) (c .word .result) (c .word .ensures)
 
 pub pane-at-spec : {M : Type 1} → statement M
 pane-at-spec = tie.close (tie.spec mul-word add-word word-requires returns)

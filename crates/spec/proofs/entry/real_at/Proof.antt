@@ -25,7 +25,10 @@ decode-requires c κs = search needs
 
 -- src/entry.rt:39:1
 returns : tie.Need-returns
-returns c = real-entry (c .before .before .before .args .b .now) (c .before .before .before .args .start) (c .before .before .before .args .n) (c .before .before .before .args .i) (c .before .before .before .pre .1) (c .before .word .result) (c .decode .result) (c .before .word .ensures) (c .decode .ensures)
+returns c =
+    let bytes = c .before .before .before .args .b .now in
+    let i = c .before .before .before .args .i in
+    real-entry bytes (c .before .before .before .args .start) (c .before .before .before .args .n) i (c .before .before .before .pre .1) (c .before .word .result) (c .decode .result) (c .before .word .ensures) (c .decode .ensures)
 
 pub real-at-spec : {M : Type 1} → statement M
 real-at-spec = tie.close (tie.spec mul-word add-word word-requires decode-requires returns)

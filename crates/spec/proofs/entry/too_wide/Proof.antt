@@ -21,7 +21,12 @@ abbrev μ-loop : tie.MeasureT-loop
 
 -- src/entry.rt:53:5
 loop-holds : tie.Need-loop-holds Inv-loop μ-loop
-loop-holds c = search-start wideRow (rowsAt (c .before .args .b .now) (c .before .args .t)) ((c .before .args .t) .«row_count») (length-entries (c .before .args .b .now) ((c .before .args .t) .rows) ((c .before .args .t) .«row_count») rowFrom)
+loop-holds c =
+    let bytes = c .before .args .b .now in
+    let t = c .before .args .t in
+    let r = rowsAt bytes t in
+    let n = t .«row_count» in
+    search-start wideRow r n (length-entries bytes (t .rows) n rowFrom)
 
 -- src/entry.rt:54:20
 known-row-requires : tie.Need-known-row-requires Inv-loop μ-loop
@@ -33,7 +38,12 @@ is-wide-requires c κs = search needs
 
 -- src/entry.rt:55:13
 returns : tie.Need-returns Inv-loop μ-loop
-returns c = search-found wideRow (rowsAt (c .before .before .before .before .before .before .args .b .now) (c .before .before .before .before .before .before .args .t)) ((c .before .before .before .before .before .before .args .t) .«row_count») (c .before .before .before .before .loop .i) paneRow (c .before .before .before .before .loop .inv) (c .before .before .before .loop-test .taken) (sym (c .if1 .taken) ∙ c .before .is-wide .ensures ∙ ap wideRow (c .before .before .known-row .ensures))
+returns c =
+    let bytes = c .before .before .before .before .before .before .args .b .now in
+    let t = c .before .before .before .before .before .before .args .t in
+    let r = rowsAt bytes t in
+    let n = t .«row_count» in
+    search-found wideRow r n (c .before .before .before .before .loop .i) paneRow (c .before .before .before .before .loop .inv) (c .before .before .before .loop-test .taken) (sym (c .if1 .taken) ∙ c .before .is-wide .ensures ∙ ap wideRow (c .before .before .known-row .ensures))
 
 -- src/entry.rt:57:9
 add-i : tie.Need-add-i Inv-loop μ-loop
@@ -45,11 +55,21 @@ loop-less c = omega (arith, c .before .before .before .loop-test .taken)
 
 -- src/entry.rt:53:5
 loop-again : tie.Need-loop-again Inv-loop μ-loop
-loop-again c = search-more wideRow (rowsAt (c .before .before .before .before .before .before .args .b .now) (c .before .before .before .before .before .before .args .t)) ((c .before .before .before .before .before .before .args .t) .«row_count») (c .before .before .before .before .loop .i) paneRow (c .before .before .before .before .loop .inv) (c .before .before .before .loop-test .taken) (sym (c .if1 .left) ∙ c .before .is-wide .ensures ∙ ap wideRow (c .before .before .known-row .ensures))
+loop-again c =
+    let bytes = c .before .before .before .before .before .before .args .b .now in
+    let t = c .before .before .before .before .before .before .args .t in
+    let r = rowsAt bytes t in
+    let n = t .«row_count» in
+    search-more wideRow r n (c .before .before .before .before .loop .i) paneRow (c .before .before .before .before .loop .inv) (c .before .before .before .loop-test .taken) (sym (c .if1 .left) ∙ c .before .is-wide .ensures ∙ ap wideRow (c .before .before .known-row .ensures))
 
 -- src/entry.rt:47:1
 returns-2 : tie.Need-returns-2 Inv-loop μ-loop
-returns-2 c = search-end wideRow (rowsAt (c .before .before .before .args .b .now) (c .before .before .before .args .t)) ((c .before .before .before .args .t) .«row_count») (c .before .loop .i) (c .before .loop .inv) (c .loop-test .left)
+returns-2 c =
+    let bytes = c .before .before .before .args .b .now in
+    let t = c .before .before .before .args .t in
+    let r = rowsAt bytes t in
+    let n = t .«row_count» in
+    search-end wideRow r n (c .before .loop .i) (c .before .loop .inv) (c .loop-test .left)
 
 pub too-wide-spec : {M : Type 1} → statement M
 too-wide-spec =

@@ -24,19 +24,32 @@ enum-told c = search needs
 
 -- src/preorder.rt:69:9
 returns : tie.Need-returns
-returns c = subst (λ (r : Sections). SectionsAre (c .before .before .before .before .args .b .now) r) (c .enum-told .given .1) (c .before .before .find-sections .ensures) .is
+returns c =
+    let bytes = c .before .before .before .before .args .b .now in
+    subst (λ (r : Sections). SectionsAre bytes r) (c .enum-told .given .1) (c .before .before .find-sections .ensures) .is
 
 -- src/preorder.rt:71:8
 rows-fit-requires : tie.Need-rows-fit-requires
-rows-fit-requires c κs = (subst (λ (r : Sections). SectionsAre (c .before .before .before .before .before .args .b .now) r) (c .before .t .given .1) (c .before .before .before .find-sections .ensures)) .here
+rows-fit-requires c κs =
+    let bytes = c .before .before .before .before .before .args .b .now in
+    let w = subst (λ (r : Sections). SectionsAre bytes r) (c .before .t .given .1) (c .before .before .before .find-sections .ensures) in
+    w .here
 
 -- src/preorder.rt:72:9
 returns-2 : tie.Need-returns-2
-returns-2 c = table-good (c .before .before .before .before .before .before .before .args .b .now) (c .before .before .before .t .given .0 .0) (subst (λ (r : Sections). SectionsAre (c .before .before .before .before .before .before .before .args .b .now) r) (c .before .before .before .t .given .1) (c .before .before .before .before .before .find-sections .ensures)) (sym (c .if1 .taken) ∙ c .before .rows-fit .ensures)
+returns-2 c =
+    let bytes = c .before .before .before .before .before .before .before .args .b .now in
+    let t = c .before .before .before .t .given .0 .0 in
+    let w = subst (λ (r : Sections). SectionsAre bytes r) (c .before .before .before .t .given .1) (c .before .before .before .before .before .find-sections .ensures) in
+    table-good bytes t w (sym (c .if1 .taken) ∙ c .before .rows-fit .ensures)
 
 -- src/preorder.rt:65:1
 returns-3 : tie.Need-returns-3
-returns-3 c = table-bad (c .before .before .before .before .before .before .before .args .b .now) (c .before .before .before .t .given .0 .0) (subst (λ (r : Sections). SectionsAre (c .before .before .before .before .before .before .before .args .b .now) r) (c .before .before .before .t .given .1) (c .before .before .before .before .before .find-sections .ensures)) (sym (c .if1 .left) ∙ c .before .rows-fit .ensures)
+returns-3 c =
+    let bytes = c .before .before .before .before .before .before .before .args .b .now in
+    let t = c .before .before .before .t .given .0 .0 in
+    let w = subst (λ (r : Sections). SectionsAre bytes r) (c .before .before .before .t .given .1) (c .before .before .before .before .before .find-sections .ensures) in
+    table-bad bytes t w (sym (c .if1 .left) ∙ c .before .rows-fit .ensures)
 
 pub read-table-spec : {M : Type 1} → statement M
 read-table-spec =

@@ -25,11 +25,17 @@ abbrev μ-loop : tie.MeasureT-loop
 
 -- src/preorder.rt:48:5
 loop-holds : tie.Need-loop-holds Inv-loop μ-loop
-loop-holds c = going-start (c .before .args .b .now) (c .before .args .t)
+loop-holds c =
+    let bytes = c .before .args .b .now in
+    let t = c .before .args .t in
+    going-start bytes t
 
 -- src/preorder.rt:50:13
 returns : tie.Need-returns Inv-loop μ-loop
-returns c = going-closed (c .before .before .before .before .args .b .now) (c .before .before .before .before .args .t) (c .before .before .loop .i) (c .before .before .loop .due) (c .before .before .loop .panes) (c .before .before .loop .shares) (c .before .before .loop .minima) (c .before .before .loop .inv) (c .before .loop-test .taken) (c .if1 .taken)
+returns c =
+    let bytes = c .before .before .before .before .args .b .now in
+    let t = c .before .before .before .before .args .t in
+    going-closed bytes t (c .before .before .loop .i) (c .before .before .loop .due) (c .before .before .loop .panes) (c .before .before .loop .shares) (c .before .before .loop .minima) (c .before .before .loop .inv) (c .before .loop-test .taken) (c .if1 .taken)
 
 -- src/preorder.rt:52:51
 mul-row-at : tie.Need-mul-row-at Inv-loop μ-loop
@@ -53,7 +59,10 @@ enum-told c = search needs
 
 -- src/preorder.rt:53:13
 returns-2 : tie.Need-returns-2 Inv-loop μ-loop
-returns-2 c = going-bad (c .before .before .before .before .before .before .before .args .b .now) (c .before .before .before .before .before .before .before .args .t) (c .before .before .before .before .before .loop .i) (c .before .before .before .before .before .loop .due) (c .before .before .before .before .before .loop .panes) (c .before .before .before .before .before .loop .shares) (c .before .before .before .before .before .loop .minima) (c .before .before .before .before .before .loop .inv) (c .before .before .before .before .loop-test .taken) (subst (λ (r : RowRead). ReadAt (c .before .before .before .before .before .before .before .args .b .now) ((c .before .before .before .before .before .before .before .args .t) .rows + 8 * c .before .before .before .before .before .loop .i) r) (c .enum-told .given .1) (c .before .before .row-at .ensures))
+returns-2 c =
+    let bytes = c .before .before .before .before .before .before .before .args .b .now in
+    let t = c .before .before .before .before .before .before .before .args .t in
+    going-bad bytes t (c .before .before .before .before .before .loop .i) (c .before .before .before .before .before .loop .due) (c .before .before .before .before .before .loop .panes) (c .before .before .before .before .before .loop .shares) (c .before .before .before .before .before .loop .minima) (c .before .before .before .before .before .loop .inv) (c .before .before .before .before .loop-test .taken) (subst (λ (r : RowRead). ReadAt bytes (t .rows + 8 * c .before .before .before .before .before .loop .i) r) (c .enum-told .given .1) (c .before .before .row-at .ensures))
 
 -- src/preorder.rt:55:15
 sub-due : tie.Need-sub-due Inv-loop μ-loop
@@ -65,7 +74,11 @@ children-used-requires c κs = search needs
 
 -- src/preorder.rt:55:15
 add-due : tie.Need-add-due Inv-loop μ-loop
-add-due c = omega (arith, c .before .before .before .before .before .before .before .before .before .pre .rows .few, c .before .before .before .before .before .before .before .before .before .pre .rows .inside, c .before .before .before .before .before .before .loop-test .taken, c .children-used .ensures, (subst (λ (r : RowRead). ReadAt (c .before .before .before .before .before .before .before .before .before .args .b .now) ((c .before .before .before .before .before .before .before .before .before .args .t) .rows + 8 * c .before .before .before .before .before .before .before .loop .i) r) (c .before .before .row .given .1) (c .before .before .before .before .row-at .ensures)) .small .children, c .before .before .before .before .before .before .before .loop .inv .due-few)
+add-due c =
+    let bytes = c .before .before .before .before .before .before .before .before .before .args .b .now in
+    let t = c .before .before .before .before .before .before .before .before .before .args .t in
+    let rd = subst (λ (r : RowRead). ReadAt bytes (t .rows + 8 * c .before .before .before .before .before .before .before .loop .i) r) (c .before .before .row .given .1) (c .before .before .before .before .row-at .ensures) in
+    omega (arith, c .before .before .before .before .before .before .before .before .before .pre .rows .few, c .before .before .before .before .before .before .before .before .before .pre .rows .inside, c .before .before .before .before .before .before .loop-test .taken, c .children-used .ensures, rd .small .children, c .before .before .before .before .before .before .before .loop .inv .due-few)
 
 -- src/preorder.rt:56:18
 panes-used-requires : tie.Need-panes-used-requires Inv-loop μ-loop
@@ -73,7 +86,11 @@ panes-used-requires c κs = search needs
 
 -- src/preorder.rt:56:9
 add-panes : tie.Need-add-panes Inv-loop μ-loop
-add-panes c = omega (arith, c .before .before .before .before .before .before .before .before .before .before .pre .rows .few, c .before .before .before .before .before .before .before .before .before .before .pre .rows .inside, c .before .before .before .before .before .before .before .loop-test .taken, c .panes-used .ensures, (subst (λ (r : RowRead). ReadAt (c .before .before .before .before .before .before .before .before .before .before .args .b .now) ((c .before .before .before .before .before .before .before .before .before .before .args .t) .rows + 8 * c .before .before .before .before .before .before .before .before .loop .i) r) (c .before .before .before .row .given .1) (c .before .before .before .before .before .row-at .ensures)) .small .panes, c .before .before .before .before .before .before .before .before .loop .inv .panes-few)
+add-panes c =
+    let bytes = c .before .before .before .before .before .before .before .before .before .before .args .b .now in
+    let t = c .before .before .before .before .before .before .before .before .before .before .args .t in
+    let rd = subst (λ (r : RowRead). ReadAt bytes (t .rows + 8 * c .before .before .before .before .before .before .before .before .loop .i) r) (c .before .before .before .row .given .1) (c .before .before .before .before .before .row-at .ensures) in
+    omega (arith, c .before .before .before .before .before .before .before .before .before .before .pre .rows .few, c .before .before .before .before .before .before .before .before .before .before .pre .rows .inside, c .before .before .before .before .before .before .before .loop-test .taken, c .panes-used .ensures, rd .small .panes, c .before .before .before .before .before .before .before .before .loop .inv .panes-few)
 
 -- src/preorder.rt:57:19
 shares-used-requires : tie.Need-shares-used-requires Inv-loop μ-loop
@@ -81,7 +98,11 @@ shares-used-requires c κs = search needs
 
 -- src/preorder.rt:57:9
 add-shares : tie.Need-add-shares Inv-loop μ-loop
-add-shares c = omega (arith, c .before .before .before .before .before .before .before .before .before .before .before .pre .rows .few, c .before .before .before .before .before .before .before .before .before .before .before .pre .rows .inside, c .before .before .before .before .before .before .before .before .loop-test .taken, c .shares-used .ensures, (subst (λ (r : RowRead). ReadAt (c .before .before .before .before .before .before .before .before .before .before .before .args .b .now) ((c .before .before .before .before .before .before .before .before .before .before .before .args .t) .rows + 8 * c .before .before .before .before .before .before .before .before .before .loop .i) r) (c .before .before .before .before .row .given .1) (c .before .before .before .before .before .before .row-at .ensures)) .small .shares, c .before .before .before .before .before .before .before .before .before .loop .inv .shares-few)
+add-shares c =
+    let bytes = c .before .before .before .before .before .before .before .before .before .before .before .args .b .now in
+    let t = c .before .before .before .before .before .before .before .before .before .before .before .args .t in
+    let rd = subst (λ (r : RowRead). ReadAt bytes (t .rows + 8 * c .before .before .before .before .before .before .before .before .before .loop .i) r) (c .before .before .before .before .row .given .1) (c .before .before .before .before .before .before .row-at .ensures) in
+    omega (arith, c .before .before .before .before .before .before .before .before .before .before .before .pre .rows .few, c .before .before .before .before .before .before .before .before .before .before .before .pre .rows .inside, c .before .before .before .before .before .before .before .before .loop-test .taken, c .shares-used .ensures, rd .small .shares, c .before .before .before .before .before .before .before .before .before .loop .inv .shares-few)
 
 -- src/preorder.rt:58:19
 minima-used-requires : tie.Need-minima-used-requires Inv-loop μ-loop
@@ -89,7 +110,11 @@ minima-used-requires c κs = search needs
 
 -- src/preorder.rt:58:9
 add-minima : tie.Need-add-minima Inv-loop μ-loop
-add-minima c = omega (arith, c .before .before .before .before .before .before .before .before .before .before .before .before .pre .rows .few, c .before .before .before .before .before .before .before .before .before .before .before .before .pre .rows .inside, c .before .before .before .before .before .before .before .before .before .loop-test .taken, c .minima-used .ensures, (subst (λ (r : RowRead). ReadAt (c .before .before .before .before .before .before .before .before .before .before .before .before .args .b .now) ((c .before .before .before .before .before .before .before .before .before .before .before .before .args .t) .rows + 8 * c .before .before .before .before .before .before .before .before .before .before .loop .i) r) (c .before .before .before .before .before .row .given .1) (c .before .before .before .before .before .before .before .row-at .ensures)) .small .minima, c .before .before .before .before .before .before .before .before .before .before .loop .inv .minima-few)
+add-minima c =
+    let bytes = c .before .before .before .before .before .before .before .before .before .before .before .before .args .b .now in
+    let t = c .before .before .before .before .before .before .before .before .before .before .before .before .args .t in
+    let rd = subst (λ (r : RowRead). ReadAt bytes (t .rows + 8 * c .before .before .before .before .before .before .before .before .before .before .loop .i) r) (c .before .before .before .before .before .row .given .1) (c .before .before .before .before .before .before .before .row-at .ensures) in
+    omega (arith, c .before .before .before .before .before .before .before .before .before .before .before .before .pre .rows .few, c .before .before .before .before .before .before .before .before .before .before .before .before .pre .rows .inside, c .before .before .before .before .before .before .before .before .before .loop-test .taken, c .minima-used .ensures, rd .small .minima, c .before .before .before .before .before .before .before .before .before .before .loop .inv .minima-few)
 
 -- src/preorder.rt:59:9
 add-i : tie.Need-add-i Inv-loop μ-loop
@@ -101,7 +126,12 @@ loop-less c = omega (arith, c .before .before .before .before .before .before .b
 
 -- src/preorder.rt:48:5
 loop-again : tie.Need-loop-again Inv-loop μ-loop
-loop-again c = going-more (c .before .before .before .before .before .before .before .before .before .before .before .before .args .b .now) (c .before .before .before .before .before .before .before .before .before .before .before .before .args .t) (c .before .before .before .before .before .before .before .before .before .before .loop .i) (c .before .before .before .before .before .before .before .before .before .before .loop .due) (c .before .before .before .before .before .before .before .before .before .before .loop .panes) (c .before .before .before .before .before .before .before .before .before .before .loop .shares) (c .before .before .before .before .before .before .before .before .before .before .loop .minima) (c .before .before .before .before .before .before .before .before .before .before .loop .inv) (c .before .before .before .before .before .before .before .before .before .loop-test .taken) (c .before .before .before .before .before .row .given .0 .0) (c .before .before .before .children-used .result) (c .before .before .panes-used .result) (c .before .shares-used .result) (c .minima-used .result) (subst (λ (r : RowRead). ReadAt (c .before .before .before .before .before .before .before .before .before .before .before .before .args .b .now) ((c .before .before .before .before .before .before .before .before .before .before .before .before .args .t) .rows + 8 * c .before .before .before .before .before .before .before .before .before .before .loop .i) r) (c .before .before .before .before .before .row .given .1) (c .before .before .before .before .before .before .before .row-at .ensures)) (c .before .before .before .before .before .before .before .before .if1 .left) (c .before .before .before .children-used .ensures) (c .before .before .panes-used .ensures) (c .before .shares-used .ensures) (c .minima-used .ensures)
+loop-again c =
+    let bytes = c .before .before .before .before .before .before .before .before .before .before .before .before .args .b .now in
+    let t = c .before .before .before .before .before .before .before .before .before .before .before .before .args .t in
+    let row = c .before .before .before .before .before .row .given .0 .0 in
+    let rd = subst (λ (r : RowRead). ReadAt bytes (t .rows + 8 * c .before .before .before .before .before .before .before .before .before .before .loop .i) r) (c .before .before .before .before .before .row .given .1) (c .before .before .before .before .before .before .before .row-at .ensures) in
+    going-more bytes t (c .before .before .before .before .before .before .before .before .before .before .loop .i) (c .before .before .before .before .before .before .before .before .before .before .loop .due) (c .before .before .before .before .before .before .before .before .before .before .loop .panes) (c .before .before .before .before .before .before .before .before .before .before .loop .shares) (c .before .before .before .before .before .before .before .before .before .before .loop .minima) (c .before .before .before .before .before .before .before .before .before .before .loop .inv) (c .before .before .before .before .before .before .before .before .before .loop-test .taken) row (c .before .before .before .children-used .result) (c .before .before .panes-used .result) (c .before .shares-used .result) (c .minima-used .result) rd (c .before .before .before .before .before .before .before .before .if1 .left) (c .before .before .before .children-used .ensures) (c .before .before .panes-used .ensures) (c .before .shares-used .ensures) (c .minima-used .ensures)
 
 -- src/preorder.rt:61:5
 all-used-requires : tie.Need-all-used-requires Inv-loop μ-loop
@@ -109,7 +139,10 @@ all-used-requires c κs = search needs
 
 -- src/preorder.rt:37:1
 returns-3 : tie.Need-returns-3 Inv-loop μ-loop
-returns-3 c = c .all-used .ensures ∙ going-end (c .before .before .before .before .args .b .now) (c .before .before .before .before .args .t) (c .before .before .loop .i) (c .before .before .loop .due) (c .before .before .loop .panes) (c .before .before .loop .shares) (c .before .before .loop .minima) (c .before .before .loop .inv) (c .before .loop-test .left)
+returns-3 c =
+    let bytes = c .before .before .before .before .args .b .now in
+    let t = c .before .before .before .before .args .t in
+    c .all-used .ensures ∙ going-end bytes t (c .before .before .loop .i) (c .before .before .loop .due) (c .before .before .loop .panes) (c .before .before .loop .shares) (c .before .before .loop .minima) (c .before .before .loop .inv) (c .before .loop-test .left)
 
 pub rows-fit-spec : {M : Type 1} → statement M
 rows-fit-spec =

@@ -45,7 +45,15 @@ push-spec-returns : (t : ℕ) → push-spec-lts.Need-returns (
   push-spec-below t,
   push-spec.Post,
 ) (push-spec-at t) push-spec.Post push-spec-Inv-loop push-spec-μ-loop
-push-spec-returns t c = let q = length-entries (c .before .before .before .args .b .now) ((c .before .before .before .args .t) .rows) ((c .before .before .before .args .t) .«row_count») rowFrom in pushed-none (rowsAt (c .before .before .before .args .b .now) (c .before .before .before .args .t)) (c .before .before .before .args .kids .now) (c .before .before .before .args .at) (c .before .before .before .pre .1 .size) (omega (arith, c .before .before .before .pre .1 .within)) (omega (arith, c .if1 .taken))
+push-spec-returns t c =
+    let bytes = c .before .before .before .args .b .now in
+    let t = c .before .before .before .args .t in
+    let len = length-entries bytes (t .rows) (t .«row_count») rowFrom in
+    let rows = rowsAt bytes t in
+    let k0 = c .before .before .before .args .kids .now in
+    let at = c .before .before .before .args .at in
+    let pre = c .before .before .before .pre .1 in
+    let q = len in pushed-none rows k0 at (pre .size) (omega (arith, pre .within)) (omega (arith, c .if1 .taken))
 
 -- src/push.rt:18:9
 push-spec-known-row-requires : (t : ℕ) → push-spec-lts.Need-known-row-requires (
@@ -56,7 +64,9 @@ push-spec-known-row-requires : (t : ℕ) → push-spec-lts.Need-known-row-requir
   push-spec-below t,
   push-spec.Post,
 ) (push-spec-at t) push-spec.Post push-spec-Inv-loop push-spec-μ-loop
-push-spec-known-row-requires t c κs = (c .before .before .before .pre .1 .placed, c .if1 .left)
+push-spec-known-row-requires t c κs =
+    let pre = c .before .before .before .pre .1 in
+    (pre .placed, c .if1 .left)
 
 -- src/push.rt:19:9
 push-spec-children-used-requires : (t : ℕ) → push-spec-lts.Need-children-used-requires (
@@ -78,7 +88,9 @@ push-spec-add-next : (t : ℕ) → push-spec-lts.Need-add-next (
   push-spec-below t,
   push-spec.Post,
 ) (push-spec-at t) push-spec.Post push-spec-Inv-loop push-spec-μ-loop
-push-spec-add-next t c = omega (arith, c .before .before .if1 .left, c .before .before .before .before .before .pre .1 .few)
+push-spec-add-next t c =
+    let pre = c .before .before .before .before .before .pre .1 in
+    omega (arith, c .before .before .if1 .left, pre .few)
 
 -- src/push.rt:22:5
 push-spec-loop-holds : (t : ℕ) → push-spec-lts.Need-loop-holds (
@@ -89,7 +101,16 @@ push-spec-loop-holds : (t : ℕ) → push-spec-lts.Need-loop-holds (
   push-spec-below t,
   push-spec.Post,
 ) (push-spec-at t) push-spec.Post push-spec-Inv-loop push-spec-μ-loop
-push-spec-loop-holds t c = (omega arith, fill-none (fill-start (rowsAt (c .before .before .before .before .before .args .b .now) (c .before .before .before .before .before .args .t)) (c .before .before .before .before .before .args .at) (c .children-used .result) (c .before .before .before .before .before .args .kids .now) (let q = length-entries (c .before .before .before .before .before .args .b .now) ((c .before .before .before .before .before .args .t) .rows) ((c .before .before .before .before .before .args .t) .«row_count») rowFrom in omega (arith, c .before .before .if1 .left)) (c .before .before .before .before .before .pre .1 .size)))
+push-spec-loop-holds t c =
+    let bytes = c .before .before .before .before .before .args .b .now in
+    let t = c .before .before .before .before .before .args .t in
+    let rows = rowsAt bytes t in
+    let at = c .before .before .before .before .before .args .at in
+    let n = c .children-used .result in
+    let k0 = c .before .before .before .before .before .args .kids .now in
+    let len = length-entries bytes (t .rows) (t .«row_count») rowFrom in
+    let pre = c .before .before .before .before .before .pre .1 in
+    (omega arith, fill-none (fill-start rows at n k0 (let q = len in omega (arith, c .before .before .if1 .left)) (pre .size)))
 
 -- src/push.rt:23:17
 push-spec-sub-j : (t : ℕ) → push-spec-lts.Need-sub-j (
@@ -111,7 +132,15 @@ push-spec-mul-kids : (t : ℕ) → push-spec-lts.Need-mul-kids (
   push-spec-below t,
   push-spec.Post,
 ) (push-spec-at t) push-spec.Post push-spec-Inv-loop push-spec-μ-loop
-push-spec-mul-kids t c = let few : (c .before .before .children-used .result) ≤ 16 = (let q = row-narrow (rowsAt (c .before .before .before .before .before .before .before .args .b .now) (c .before .before .before .before .before .before .before .args .t)) (c .before .before .before .before .before .before .before .args .at) paneRow (let q = length-entries (c .before .before .before .before .before .before .before .args .b .now) ((c .before .before .before .before .before .before .before .args .t) .rows) ((c .before .before .before .before .before .before .before .args .t) .«row_count») rowFrom in omega (arith, c .before .before .before .before .if1 .left)) (c .before .before .before .before .before .before .before .pre .1 .narrow) in omega (arith, c .before .before .children-used .ensures, ap childrenUsed (c .before .before .before .known-row .ensures))) in omega (arith, c .before .before .before .before .if1 .left, c .before .before .before .before .before .before .before .pre .1 .few, c .loop-test .taken, c .before .loop .inv .0)
+push-spec-mul-kids t c =
+    let n = c .before .before .children-used .result in
+    let bytes = c .before .before .before .before .before .before .before .args .b .now in
+    let t = c .before .before .before .before .before .before .before .args .t in
+    let rows = rowsAt bytes t in
+    let at = c .before .before .before .before .before .before .before .args .at in
+    let len = length-entries bytes (t .rows) (t .«row_count») rowFrom in
+    let pre = c .before .before .before .before .before .before .before .pre .1 in
+    let few : n ≤ 16 = (let q = row-narrow rows at paneRow (let q = len in omega (arith, c .before .before .before .before .if1 .left)) (pre .narrow) in omega (arith, c .before .before .children-used .ensures, ap childrenUsed (c .before .before .before .known-row .ensures))) in omega (arith, c .before .before .before .before .if1 .left, pre .few, c .loop-test .taken, c .before .loop .inv .0)
 
 -- src/push.rt:24:14
 push-spec-add-kids : (t : ℕ) → push-spec-lts.Need-add-kids (
@@ -122,7 +151,15 @@ push-spec-add-kids : (t : ℕ) → push-spec-lts.Need-add-kids (
   push-spec-below t,
   push-spec.Post,
 ) (push-spec-at t) push-spec.Post push-spec-Inv-loop push-spec-μ-loop
-push-spec-add-kids t c = let few : (c .before .before .children-used .result) ≤ 16 = (let q = row-narrow (rowsAt (c .before .before .before .before .before .before .before .args .b .now) (c .before .before .before .before .before .before .before .args .t)) (c .before .before .before .before .before .before .before .args .at) paneRow (let q = length-entries (c .before .before .before .before .before .before .before .args .b .now) ((c .before .before .before .before .before .before .before .args .t) .rows) ((c .before .before .before .before .before .before .before .args .t) .«row_count») rowFrom in omega (arith, c .before .before .before .before .if1 .left)) (c .before .before .before .before .before .before .before .pre .1 .narrow) in omega (arith, c .before .before .children-used .ensures, ap childrenUsed (c .before .before .before .known-row .ensures))) in omega (arith, c .before .before .before .before .if1 .left, c .before .before .before .before .before .before .before .pre .1 .few, c .loop-test .taken, c .before .loop .inv .0)
+push-spec-add-kids t c =
+    let n = c .before .before .children-used .result in
+    let bytes = c .before .before .before .before .before .before .before .args .b .now in
+    let t = c .before .before .before .before .before .before .before .args .t in
+    let rows = rowsAt bytes t in
+    let at = c .before .before .before .before .before .before .before .args .at in
+    let len = length-entries bytes (t .rows) (t .«row_count») rowFrom in
+    let pre = c .before .before .before .before .before .before .before .pre .1 in
+    let few : n ≤ 16 = (let q = row-narrow rows at paneRow (let q = len in omega (arith, c .before .before .before .before .if1 .left)) (pre .narrow) in omega (arith, c .before .before .children-used .ensures, ap childrenUsed (c .before .before .before .known-row .ensures))) in omega (arith, c .before .before .before .before .if1 .left, pre .few, c .loop-test .taken, c .before .loop .inv .0)
 
 -- src/push.rt:24:9
 push-spec-mul-kids-2 : (t : ℕ) → push-spec-lts.Need-mul-kids-2 (
@@ -133,7 +170,15 @@ push-spec-mul-kids-2 : (t : ℕ) → push-spec-lts.Need-mul-kids-2 (
   push-spec-below t,
   push-spec.Post,
 ) (push-spec-at t) push-spec.Post push-spec-Inv-loop push-spec-μ-loop
-push-spec-mul-kids-2 t c = let few : (c .before .before .children-used .result) ≤ 16 = (let q = row-narrow (rowsAt (c .before .before .before .before .before .before .before .args .b .now) (c .before .before .before .before .before .before .before .args .t)) (c .before .before .before .before .before .before .before .args .at) paneRow (let q = length-entries (c .before .before .before .before .before .before .before .args .b .now) ((c .before .before .before .before .before .before .before .args .t) .rows) ((c .before .before .before .before .before .before .before .args .t) .«row_count») rowFrom in omega (arith, c .before .before .before .before .if1 .left)) (c .before .before .before .before .before .before .before .pre .1 .narrow) in omega (arith, c .before .before .children-used .ensures, ap childrenUsed (c .before .before .before .known-row .ensures))) in omega (arith, c .before .before .before .before .if1 .left, c .before .before .before .before .before .before .before .pre .1 .few, c .loop-test .taken, c .before .loop .inv .0)
+push-spec-mul-kids-2 t c =
+    let n = c .before .before .children-used .result in
+    let bytes = c .before .before .before .before .before .before .before .args .b .now in
+    let t = c .before .before .before .before .before .before .before .args .t in
+    let rows = rowsAt bytes t in
+    let at = c .before .before .before .before .before .before .before .args .at in
+    let len = length-entries bytes (t .rows) (t .«row_count») rowFrom in
+    let pre = c .before .before .before .before .before .before .before .pre .1 in
+    let few : n ≤ 16 = (let q = row-narrow rows at paneRow (let q = len in omega (arith, c .before .before .before .before .if1 .left)) (pre .narrow) in omega (arith, c .before .before .children-used .ensures, ap childrenUsed (c .before .before .before .known-row .ensures))) in omega (arith, c .before .before .before .before .if1 .left, pre .few, c .loop-test .taken, c .before .loop .inv .0)
 
 -- src/push.rt:24:9
 push-spec-element-write-kids : (t : ℕ) → push-spec-lts.Need-element-write-kids (
@@ -144,7 +189,15 @@ push-spec-element-write-kids : (t : ℕ) → push-spec-lts.Need-element-write-ki
   push-spec-below t,
   push-spec.Post,
 ) (push-spec-at t) push-spec.Post push-spec-Inv-loop push-spec-μ-loop
-push-spec-element-write-kids t c = let few : (c .before .before .children-used .result) ≤ 16 = (let q = row-narrow (rowsAt (c .before .before .before .before .before .before .before .args .b .now) (c .before .before .before .before .before .before .before .args .t)) (c .before .before .before .before .before .before .before .args .at) paneRow (let q = length-entries (c .before .before .before .before .before .before .before .args .b .now) ((c .before .before .before .before .before .before .before .args .t) .rows) ((c .before .before .before .before .before .before .before .args .t) .«row_count») rowFrom in omega (arith, c .before .before .before .before .if1 .left)) (c .before .before .before .before .before .before .before .pre .1 .narrow) in omega (arith, c .before .before .children-used .ensures, ap childrenUsed (c .before .before .before .known-row .ensures))) in omega (arith, c .before .before .before .before .if1 .left, c .before .before .before .before .before .before .before .pre .1 .few, c .loop-test .taken, c .before .loop .inv .0, c .before .loop .inv .1 .size)
+push-spec-element-write-kids t c =
+    let n = c .before .before .children-used .result in
+    let bytes = c .before .before .before .before .before .before .before .args .b .now in
+    let t = c .before .before .before .before .before .before .before .args .t in
+    let rows = rowsAt bytes t in
+    let at = c .before .before .before .before .before .before .before .args .at in
+    let len = length-entries bytes (t .rows) (t .«row_count») rowFrom in
+    let pre = c .before .before .before .before .before .before .before .pre .1 in
+    let few : n ≤ 16 = (let q = row-narrow rows at paneRow (let q = len in omega (arith, c .before .before .before .before .if1 .left)) (pre .narrow) in omega (arith, c .before .before .children-used .ensures, ap childrenUsed (c .before .before .before .known-row .ensures))) in omega (arith, c .before .before .before .before .if1 .left, pre .few, c .loop-test .taken, c .before .loop .inv .0, c .before .loop .inv .1 .size)
 
 -- src/push.rt:25:9
 push-spec-push-spec-requires : (t : ℕ) → push-spec-lts.Need-push-spec-requires (
@@ -155,7 +208,15 @@ push-spec-push-spec-requires : (t : ℕ) → push-spec-lts.Need-push-spec-requir
   push-spec-below t,
   push-spec.Post,
 ) (push-spec-at t) push-spec.Post push-spec-Inv-loop push-spec-μ-loop
-push-spec-push-spec-requires t c κs = let q = length-entries (c .before .before .before .before .before .before .before .before .args .b .now) ((c .before .before .before .before .before .before .before .before .args .t) .rows) ((c .before .before .before .before .before .before .before .before .args .t) .«row_count») rowFrom in (omega (arith, c .before .before .before .before .before .before .before .before .pre .0, c .before .before .loop .inv .1 .low, c .before .before .loop .inv .1 .high, c .before .before .before .before .before .if1 .left), record { placed = c .before .before .before .before .before .before .before .before .pre .1 .placed; few = c .before .before .before .before .before .before .before .before .pre .1 .few; narrow = c .before .before .before .before .before .before .before .before .pre .1 .narrow; within = omega (arith, c .before .before .loop .inv .1 .high); size = length-set (c .before .before .loop .kids) (16 * (c .before .before .before .before .before .before .before .before .args .at) + ((c .before .before .before .children-used .result) - c .before .before .loop .left)) (c .before .before .loop .next) ∙ c .before .before .loop .inv .1 .size })
+push-spec-push-spec-requires t c κs =
+    let bytes = c .before .before .before .before .before .before .before .before .args .b .now in
+    let t = c .before .before .before .before .before .before .before .before .args .t in
+    let len = length-entries bytes (t .rows) (t .«row_count») rowFrom in
+    let pre = c .before .before .before .before .before .before .before .before .pre .1 in
+    let at = c .before .before .before .before .before .before .before .before .args .at in
+    let n = c .before .before .before .children-used .result in
+    let j = n - c .before .before .loop .left in
+    let q = len in (omega (arith, c .before .before .before .before .before .before .before .before .pre .0, c .before .before .loop .inv .1 .low, c .before .before .loop .inv .1 .high, c .before .before .before .before .before .if1 .left), record { placed = pre .placed; few = pre .few; narrow = pre .narrow; within = omega (arith, c .before .before .loop .inv .1 .high); size = length-set (c .before .before .loop .kids) (16 * at + j) (c .before .before .loop .next) ∙ c .before .before .loop .inv .1 .size })
 
 -- src/push.rt:26:9
 push-spec-sub-left : (t : ℕ) → push-spec-lts.Need-sub-left (
@@ -188,7 +249,17 @@ push-spec-loop-again : (t : ℕ) → push-spec-lts.Need-loop-again (
   push-spec-below t,
   push-spec.Post,
 ) (push-spec-at t) push-spec.Post push-spec-Inv-loop push-spec-μ-loop
-push-spec-loop-again t c = (omega (arith, c .before .before .before .loop .inv .0), fill-counted (c .before .before .before .loop .left) (c .before .before .loop-test .taken) (c .before .before .before .loop .inv .0) (fill-more (rowsAt (c .before .before .before .before .before .before .before .before .before .args .b .now) (c .before .before .before .before .before .before .before .before .before .args .t)) (c .before .before .before .before .before .before .before .before .before .args .at) (c .before .before .before .before .children-used .result) (c .before .before .before .before .before .before .before .before .before .args .kids .now) (c .before .before .before .loop .kids) _ ((c .before .before .before .before .children-used .result) - c .before .before .before .loop .left) (c .before .before .before .loop .next) (c .push-spec .result) (c .before .before .before .loop .inv .1) (omega (arith, c .before .before .loop-test .taken, c .before .before .before .loop .inv .0)) (let q = row-narrow (rowsAt (c .before .before .before .before .before .before .before .before .before .args .b .now) (c .before .before .before .before .before .before .before .before .before .args .t)) (c .before .before .before .before .before .before .before .before .before .args .at) paneRow (let q = length-entries (c .before .before .before .before .before .before .before .before .before .args .b .now) ((c .before .before .before .before .before .before .before .before .before .args .t) .rows) ((c .before .before .before .before .before .before .before .before .before .args .t) .«row_count») rowFrom in omega (arith, c .before .before .before .before .before .before .if1 .left)) (c .before .before .before .before .before .before .before .before .before .pre .1 .narrow) in omega (arith, c .before .before .before .before .children-used .ensures, ap childrenUsed (c .before .before .before .before .before .known-row .ensures))) (omega (arith, c .before .before .before .before .before .before .if1 .left, c .before .before .before .before .before .before .before .before .before .pre .1 .few)) (c .before .before .before .before .before .before .before .before .before .pre .1 .narrow) (c .push-spec .ensures)))
+push-spec-loop-again t c =
+    let bytes = c .before .before .before .before .before .before .before .before .before .args .b .now in
+    let t = c .before .before .before .before .before .before .before .before .before .args .t in
+    let rows = rowsAt bytes t in
+    let at = c .before .before .before .before .before .before .before .before .before .args .at in
+    let n = c .before .before .before .before .children-used .result in
+    let k0 = c .before .before .before .before .before .before .before .before .before .args .kids .now in
+    let j = n - c .before .before .before .loop .left in
+    let len = length-entries bytes (t .rows) (t .«row_count») rowFrom in
+    let pre = c .before .before .before .before .before .before .before .before .before .pre .1 in
+    (omega (arith, c .before .before .before .loop .inv .0), fill-counted (c .before .before .before .loop .left) (c .before .before .loop-test .taken) (c .before .before .before .loop .inv .0) (fill-more rows at n k0 (c .before .before .before .loop .kids) _ j (c .before .before .before .loop .next) (c .push-spec .result) (c .before .before .before .loop .inv .1) (omega (arith, c .before .before .loop-test .taken, c .before .before .before .loop .inv .0)) (let q = row-narrow rows at paneRow (let q = len in omega (arith, c .before .before .before .before .before .before .if1 .left)) (pre .narrow) in omega (arith, c .before .before .before .before .children-used .ensures, ap childrenUsed (c .before .before .before .before .before .known-row .ensures))) (omega (arith, c .before .before .before .before .before .before .if1 .left, pre .few)) (pre .narrow) (c .push-spec .ensures)))
 
 -- src/push.rt:11:1
 push-spec-returns-2 : (t : ℕ) → push-spec-lts.Need-returns-2 (
@@ -199,7 +270,16 @@ push-spec-returns-2 : (t : ℕ) → push-spec-lts.Need-returns-2 (
   push-spec-below t,
   push-spec.Post,
 ) (push-spec-at t) push-spec.Post push-spec-Inv-loop push-spec-μ-loop
-push-spec-returns-2 t c = fill-end (rowsAt (c .before .before .before .before .before .before .before .args .b .now) (c .before .before .before .before .before .before .before .args .t)) (c .before .before .before .before .before .before .before .args .at) (c .before .before .children-used .result) (c .before .before .before .before .before .before .before .args .kids .now) (c .before .loop .kids) ((c .before .before .children-used .result) - c .before .loop .left) (c .before .loop .next) (rowIs (c .before .before .before .known-row .result)) (c .before .loop .inv .1) (omega (arith, c .loop-test .left)) (let q = length-entries (c .before .before .before .before .before .before .before .args .b .now) ((c .before .before .before .before .before .before .before .args .t) .rows) ((c .before .before .before .before .before .before .before .args .t) .«row_count») rowFrom in omega (arith, c .before .before .before .before .if1 .left)) (c .before .before .before .known-row .ensures) (c .before .before .children-used .ensures)
+push-spec-returns-2 t c =
+    let bytes = c .before .before .before .before .before .before .before .args .b .now in
+    let t = c .before .before .before .before .before .before .before .args .t in
+    let rows = rowsAt bytes t in
+    let at = c .before .before .before .before .before .before .before .args .at in
+    let n = c .before .before .children-used .result in
+    let k0 = c .before .before .before .before .before .before .before .args .kids .now in
+    let j = n - c .before .loop .left in
+    let len = length-entries bytes (t .rows) (t .«row_count») rowFrom in
+    fill-end rows at n k0 (c .before .loop .kids) j (c .before .loop .next) (rowIs (c .before .before .before .known-row .result)) (c .before .loop .inv .1) (omega (arith, c .loop-test .left)) (let q = len in omega (arith, c .before .before .before .before .if1 .left)) (c .before .before .before .known-row .ensures) (c .before .before .children-used .ensures)
 
 pub +push-spec-spec : {M : Type 1} → statement M
 +push-spec-spec = close μ-push-spec λ t. push-spec-lts.spec (

@@ -24,7 +24,12 @@ abbrev μ-loop : tie.MeasureT-loop
 -- src/slot.rt:65:5
 loop-holds : tie.Need-loop-holds Inv-loop μ-loop
 unfolding padTo
-loop-holds c = building-start (tile 0) (childrenAt (c .args .kids .now) (c .args .i) (c .args .n)) _ (c .args .n) (sym (children-length (c .args .kids .now) (c .args .i) (c .args .n) (c .pre .0) (c .pre .1) (c .pre .2))) (c .pre .2) refl
+loop-holds c =
+    let k = c .args .kids .now in
+    let i = c .args .i in
+    let n = c .args .n in
+    let xs = childrenAt k i n in
+    building-start (tile 0) xs _ n (sym (children-length k i n (c .pre .0) (c .pre .1) (c .pre .2))) (c .pre .2) refl
 
 -- src/slot.rt:66:22
 mul-x : tie.Need-mul-x Inv-loop μ-loop
@@ -60,11 +65,21 @@ loop-less c = omega (arith, c .before .loop-test .taken)
 
 -- src/slot.rt:65:5
 loop-again : tie.Need-loop-again Inv-loop μ-loop
-loop-again c = building-more (tile 0) (childrenAt (c .before .before .before .args .kids .now) (c .before .before .before .args .i) (c .before .before .before .args .n)) (c .before .before .loop .at) (c .before .before .before .args .n) (c .before .before .loop .j) (tile (getD (c .before .before .before .args .kids .now) (16 * (c .before .before .before .args .i) + c .before .before .loop .j) 0)) (c .before .before .loop .inv) (c .before .loop-test .taken) (child-at (c .before .before .before .args .kids .now) (c .before .before .before .args .i) (c .before .before .before .args .n) (c .before .before .loop .j) (getD (c .before .before .before .args .kids .now) (16 * (c .before .before .before .args .i) + c .before .before .loop .j) 0) (c .before .before .before .pre .0) (c .before .before .before .pre .1) (c .before .before .before .pre .2) (c .before .loop-test .taken) refl)
+loop-again c =
+    let k = c .before .before .before .args .kids .now in
+    let i = c .before .before .before .args .i in
+    let n = c .before .before .before .args .n in
+    let xs = childrenAt k i n in
+    building-more (tile 0) xs (c .before .before .loop .at) n (c .before .before .loop .j) (tile (getD k (16 * i + c .before .before .loop .j) 0)) (c .before .before .loop .inv) (c .before .loop-test .taken) (child-at k i n (c .before .before .loop .j) (getD k (16 * i + c .before .before .loop .j) 0) (c .before .before .before .pre .0) (c .before .before .before .pre .1) (c .before .before .before .pre .2) (c .before .loop-test .taken) refl)
 
 -- src/slot.rt:59:1
 returns : tie.Need-returns Inv-loop μ-loop
-returns c = building-done (tile 0) (childrenAt (c .before .before .args .kids .now) (c .before .before .args .i) (c .before .before .args .n)) (c .before .loop .at) (c .before .before .args .n) (c .before .loop .j) (c .before .loop .inv) (c .loop-test .left)
+returns c =
+    let k = c .before .before .args .kids .now in
+    let i = c .before .before .args .i in
+    let n = c .before .before .args .n in
+    let xs = childrenAt k i n in
+    building-done (tile 0) xs (c .before .loop .at) n (c .before .loop .j) (c .before .loop .inv) (c .loop-test .left)
 
 pub children-of-spec : {M : Type 1} → statement M
 children-of-spec =

@@ -26,7 +26,14 @@ abbrev μ-loop : tie.MeasureT-loop
 -- src/slot.rt:36:5
 loop-holds : tie.Need-loop-holds Inv-loop μ-loop
 unfolding padTo
-loop-holds c = building-start 0 (take (c .before .args .n) (drop (c .before .args .p) (panesAt (c .before .args .b .now) (c .before .args .t)))) _ (c .before .args .n) (sym (part-length (panesAt (c .before .args .b .now) (c .before .args .t)) (c .before .args .p) (c .before .args .n) (let q = length-entries (c .before .args .b .now) ((c .before .args .t) .panes) ((c .before .args .t) .«pane_count») number in omega (arith, c .before .pre .1)))) (c .before .pre .2) refl
+loop-holds c =
+    let n = c .before .args .n in
+    let p = c .before .args .p in
+    let bytes = c .before .args .b .now in
+    let t = c .before .args .t in
+    let xs = panesAt bytes t in
+    let part = take n (drop p xs) in
+    building-start 0 part _ n (sym (part-length xs p n (let q = length-entries bytes (t .panes) (t .«pane_count») number in omega (arith, c .before .pre .1)))) (c .before .pre .2) refl
 
 -- src/slot.rt:37:31
 add-pane-at : tie.Need-add-pane-at Inv-loop μ-loop
@@ -54,11 +61,25 @@ loop-less c = omega (arith, c .before .loop-test .taken)
 
 -- src/slot.rt:36:5
 loop-again : tie.Need-loop-again Inv-loop μ-loop
-loop-again c = building-more 0 (take (c .before .before .before .before .args .n) (drop (c .before .before .before .before .args .p) (panesAt (c .before .before .before .before .args .b .now) (c .before .before .before .before .args .t)))) (c .before .before .loop .at) (c .before .before .before .before .args .n) (c .before .before .loop .j) (c .pane-at .result) (c .before .before .loop .inv) (c .before .loop-test .taken) (c .pane-at .ensures ∙ sym (part-at (λ (x : ℕ). true) (panesAt (c .before .before .before .before .args .b .now) (c .before .before .before .before .args .t)) (c .before .before .before .before .args .p) (c .before .before .before .before .args .n) (let q = length-entries (c .before .before .before .before .args .b .now) ((c .before .before .before .before .args .t) .panes) ((c .before .before .before .before .args .t) .«pane_count») number in omega (arith, c .before .before .before .before .pre .1)) 0 (c .before .before .loop .j) (c .before .loop-test .taken)))
+loop-again c =
+    let n = c .before .before .before .before .args .n in
+    let p = c .before .before .before .before .args .p in
+    let bytes = c .before .before .before .before .args .b .now in
+    let t = c .before .before .before .before .args .t in
+    let xs = panesAt bytes t in
+    let part = take n (drop p xs) in
+    building-more 0 part (c .before .before .loop .at) n (c .before .before .loop .j) (c .pane-at .result) (c .before .before .loop .inv) (c .before .loop-test .taken) (c .pane-at .ensures ∙ sym (part-at (λ (x : ℕ). true) xs p n (let q = length-entries bytes (t .panes) (t .«pane_count») number in omega (arith, c .before .before .before .before .pre .1)) 0 (c .before .before .loop .j) (c .before .loop-test .taken)))
 
 -- src/slot.rt:30:1
 returns : tie.Need-returns Inv-loop μ-loop
-returns c = building-done 0 (take (c .before .before .before .args .n) (drop (c .before .before .before .args .p) (panesAt (c .before .before .before .args .b .now) (c .before .before .before .args .t)))) (c .before .loop .at) (c .before .before .before .args .n) (c .before .loop .j) (c .before .loop .inv) (c .loop-test .left)
+returns c =
+    let n = c .before .before .before .args .n in
+    let p = c .before .before .before .args .p in
+    let bytes = c .before .before .before .args .b .now in
+    let t = c .before .before .before .args .t in
+    let xs = panesAt bytes t in
+    let part = take n (drop p xs) in
+    building-done 0 part (c .before .loop .at) n (c .before .loop .j) (c .before .loop .inv) (c .loop-test .left)
 
 pub panes-of-spec : {M : Type 1} → statement M
 panes-of-spec =

@@ -27,7 +27,15 @@ abbrev μ-loop : tie.MeasureT-loop
 -- src/slot.rt:51:5
 loop-holds : tie.Need-loop-holds Inv-loop μ-loop
 unfolding padTo ofBits
-loop-holds c = building-start zero-f (take (c .before .args .n) (drop (c .before .args .from) (realsAt (c .before .args .b .now) (c .before .args .start) (c .before .args .count)))) _ (c .before .args .n) (sym (part-length (realsAt (c .before .args .b .now) (c .before .args .start) (c .before .args .count)) (c .before .args .from) (c .before .args .n) (let q = length-entries (c .before .args .b .now) (c .before .args .start) (c .before .args .count) real in omega (arith, c .before .pre .1)))) (c .before .pre .2) refl
+loop-holds c =
+    let n = c .before .args .n in
+    let p = c .before .args .from in
+    let bytes = c .before .args .b .now in
+    let s = c .before .args .start in
+    let count = c .before .args .count in
+    let xs = realsAt bytes s count in
+    let part = take n (drop p xs) in
+    building-start zero-f part _ n (sym (part-length xs p n (let q = length-entries bytes s count real in omega (arith, c .before .pre .1)))) (c .before .pre .2) refl
 
 -- src/slot.rt:52:42
 add-real-at : tie.Need-add-real-at Inv-loop μ-loop
@@ -55,11 +63,27 @@ loop-less c = omega (arith, c .before .loop-test .taken)
 
 -- src/slot.rt:51:5
 loop-again : tie.Need-loop-again Inv-loop μ-loop
-loop-again c = building-more zero-f (take (c .before .before .before .before .args .n) (drop (c .before .before .before .before .args .from) (realsAt (c .before .before .before .before .args .b .now) (c .before .before .before .before .args .start) (c .before .before .before .before .args .count)))) (c .before .before .loop .at) (c .before .before .before .before .args .n) (c .before .before .loop .j) (c .real-at .result) (c .before .before .loop .inv) (c .before .loop-test .taken) (c .real-at .ensures ∙ sym (part-at (λ (x : Float). true) (realsAt (c .before .before .before .before .args .b .now) (c .before .before .before .before .args .start) (c .before .before .before .before .args .count)) (c .before .before .before .before .args .from) (c .before .before .before .before .args .n) (let q = length-entries (c .before .before .before .before .args .b .now) (c .before .before .before .before .args .start) (c .before .before .before .before .args .count) real in omega (arith, c .before .before .before .before .pre .1)) zero-f (c .before .before .loop .j) (c .before .loop-test .taken)))
+loop-again c =
+    let n = c .before .before .before .before .args .n in
+    let p = c .before .before .before .before .args .from in
+    let bytes = c .before .before .before .before .args .b .now in
+    let s = c .before .before .before .before .args .start in
+    let count = c .before .before .before .before .args .count in
+    let xs = realsAt bytes s count in
+    let part = take n (drop p xs) in
+    building-more zero-f part (c .before .before .loop .at) n (c .before .before .loop .j) (c .real-at .result) (c .before .before .loop .inv) (c .before .loop-test .taken) (c .real-at .ensures ∙ sym (part-at (λ (x : Float). true) xs p n (let q = length-entries bytes s count real in omega (arith, c .before .before .before .before .pre .1)) zero-f (c .before .before .loop .j) (c .before .loop-test .taken)))
 
 -- src/slot.rt:45:1
 returns : tie.Need-returns Inv-loop μ-loop
-returns c = building-done zero-f (take (c .before .before .before .args .n) (drop (c .before .before .before .args .from) (realsAt (c .before .before .before .args .b .now) (c .before .before .before .args .start) (c .before .before .before .args .count)))) (c .before .loop .at) (c .before .before .before .args .n) (c .before .loop .j) (c .before .loop .inv) (c .loop-test .left)
+returns c =
+    let n = c .before .before .before .args .n in
+    let p = c .before .before .before .args .from in
+    let bytes = c .before .before .before .args .b .now in
+    let s = c .before .before .before .args .start in
+    let count = c .before .before .before .args .count in
+    let xs = realsAt bytes s count in
+    let part = take n (drop p xs) in
+    building-done zero-f part (c .before .loop .at) n (c .before .loop .j) (c .before .loop .inv) (c .loop-test .left)
 
 pub reals-of-spec : {M : Type 1} → statement M
 reals-of-spec =

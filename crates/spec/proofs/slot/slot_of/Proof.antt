@@ -30,7 +30,14 @@ enum-told c = search needs
 
 -- src/slot.rt:145:37
 pane-at-requires : tie.Need-pane-at-requires
-pane-at-requires c κs = (c .before .before .before .pre .0, first-room (c .before .before .before .args .p) ((subst (λ (r : TableRow). Room (c .before .before .before .args .t) (rowIs r) (c .before .before .before .args .p) (c .before .before .before .args .s) (c .before .before .before .args .m)) (c .enum-told .given .1) (c .before .before .before .pre .1)) .panes))
+pane-at-requires c κs =
+    let t = c .before .before .before .args .t in
+    let p = c .before .before .before .args .p in
+    let s = c .before .before .before .args .s in
+    let m = c .before .before .before .args .m in
+    let e = c .enum-told .given .1 in
+    let rm = subst (λ (r : TableRow). Room t (rowIs r) p s m) (e) (c .before .before .before .pre .1) in
+    (c .before .before .before .pre .0, first-room (c .before .before .before .args .p) (rm .panes))
 
 -- src/slot.rt:145:27
 pane-slot-requires : tie.Need-pane-slot-requires
@@ -42,7 +49,15 @@ enum-known-row c = search needs
 
 -- src/slot.rt:150:14
 tabs-slot-requires : tie.Need-tabs-slot-requires
-tabs-slot-requires c κs = (c .before .before .before .before .pre .0, (subst (λ (r : TableRow). Room (c .before .before .before .before .args .t) (rowIs r) (c .before .before .before .before .args .p) (c .before .before .before .before .args .s) (c .before .before .before .before .args .m)) (c .before .row .given .1) (c .before .before .before .before .pre .1)) .panes, (subst (λ (r : TableRow). Fit (rowIs r)) (c .before .row .given .1) (c .before .before .before .before .pre .2)) .panes)
+tabs-slot-requires c κs =
+    let t = c .before .before .before .before .args .t in
+    let p = c .before .before .before .before .args .p in
+    let s = c .before .before .before .before .args .s in
+    let m = c .before .before .before .before .args .m in
+    let e = c .before .row .given .1 in
+    let rm = subst (λ (r : TableRow). Room t (rowIs r) p s m) (e) (c .before .before .before .before .pre .1) in
+    let ft = subst (λ (r : TableRow). Fit (rowIs r)) (e) (c .before .before .before .before .pre .2) in
+    (c .before .before .before .before .pre .0, rm .panes, ft .panes)
 
 -- src/slot.rt:152:13
 enum-known-row-2 : tie.Need-enum-known-row-2
@@ -50,15 +65,34 @@ enum-known-row-2 c = search needs
 
 -- src/slot.rt:157:17
 children-of-requires : tie.Need-children-of-requires
-children-of-requires c κs = (c .before .before .before .before .pre .3, c .before .before .before .before .pre .4, (subst (λ (r : TableRow). Fit (rowIs r)) (c .before .row2 .given .1) (c .before .before .before .before .pre .2)) .children)
+children-of-requires c κs =
+    let e = c .before .row2 .given .1 in
+    let ft = subst (λ (r : TableRow). Fit (rowIs r)) (e) (c .before .before .before .before .pre .2) in
+    (c .before .before .before .before .pre .3, c .before .before .before .before .pre .4, ft .children)
 
 -- src/slot.rt:158:17
 reals-of-requires : tie.Need-reals-of-requires
-reals-of-requires c κs = (c .before .before .before .before .before .pre .0 .shares, (subst (λ (r : TableRow). Room (c .before .before .before .before .before .args .t) (rowIs r) (c .before .before .before .before .before .args .p) (c .before .before .before .before .before .args .s) (c .before .before .before .before .before .args .m)) (c .before .before .row2 .given .1) (c .before .before .before .before .before .pre .1)) .shares, (subst (λ (r : TableRow). Fit (rowIs r)) (c .before .before .row2 .given .1) (c .before .before .before .before .before .pre .2)) .shares)
+reals-of-requires c κs =
+    let t = c .before .before .before .before .before .args .t in
+    let p = c .before .before .before .before .before .args .p in
+    let s = c .before .before .before .before .before .args .s in
+    let m = c .before .before .before .before .before .args .m in
+    let e = c .before .before .row2 .given .1 in
+    let rm = subst (λ (r : TableRow). Room t (rowIs r) p s m) (e) (c .before .before .before .before .before .pre .1) in
+    let ft = subst (λ (r : TableRow). Fit (rowIs r)) (e) (c .before .before .before .before .before .pre .2) in
+    (c .before .before .before .before .before .pre .0 .shares, rm .shares, ft .shares)
 
 -- src/slot.rt:159:17
 reals-of-requires-2 : tie.Need-reals-of-requires-2
-reals-of-requires-2 c κs = (c .before .before .before .before .before .before .pre .0 .minima, (subst (λ (r : TableRow). Room (c .before .before .before .before .before .before .args .t) (rowIs r) (c .before .before .before .before .before .before .args .p) (c .before .before .before .before .before .before .args .s) (c .before .before .before .before .before .before .args .m)) (c .before .before .before .row2 .given .1) (c .before .before .before .before .before .before .pre .1)) .minima, (subst (λ (r : TableRow). Fit (rowIs r)) (c .before .before .before .row2 .given .1) (c .before .before .before .before .before .before .pre .2)) .minima)
+reals-of-requires-2 c κs =
+    let t = c .before .before .before .before .before .before .args .t in
+    let p = c .before .before .before .before .before .before .args .p in
+    let s = c .before .before .before .before .before .before .args .s in
+    let m = c .before .before .before .before .before .before .args .m in
+    let e = c .before .before .before .row2 .given .1 in
+    let rm = subst (λ (r : TableRow). Room t (rowIs r) p s m) (e) (c .before .before .before .before .before .before .pre .1) in
+    let ft = subst (λ (r : TableRow). Fit (rowIs r)) (e) (c .before .before .before .before .before .before .pre .2) in
+    (c .before .before .before .before .before .before .pre .0 .minima, rm .minima, ft .minima)
 
 -- src/slot.rt:160:13
 split-from-requires : tie.Need-split-from-requires
@@ -66,15 +100,48 @@ split-from-requires c κs = (c .before .before .children-of .ensures .few, c .be
 
 -- src/slot.rt:140:1
 returns : tie.Need-returns
-returns c = subst (λ (n : Node). SlotIs (c .pane-slot .result) n) (ap pane (c .before .pane-at .ensures ∙ first-of (panesAt (c .before .before .before .before .before .args .b .now) (c .before .before .before .before .before .args .t)) (c .before .before .before .before .before .args .p)) ∙ ap (λ (r : TableRow). rowNode (c .before .before .before .before .before .args .kids .now) (c .before .before .before .before .before .args .i) (rowIs r) (leftAt (tableOf (c .before .before .before .before .before .args .b .now) (c .before .before .before .before .before .args .t)) (c .before .before .before .before .before .args .p) (c .before .before .before .before .before .args .s) (c .before .before .before .before .before .args .m))) (sym (c .before .before .enum-told .given .1))) (c .pane-slot .ensures)
+returns c =
+    let bytes = c .before .before .before .before .before .args .b .now in
+    let t = c .before .before .before .before .before .args .t in
+    let p = c .before .before .before .before .before .args .p in
+    let k = c .before .before .before .before .before .args .kids .now in
+    let i = c .before .before .before .before .before .args .i in
+    let table = tableOf bytes t in
+    let s = c .before .before .before .before .before .args .s in
+    let m = c .before .before .before .before .before .args .m in
+    let e = c .before .before .enum-told .given .1 in
+    let to = ap (λ (r : TableRow). rowNode k i (rowIs r) (leftAt table p s m)) (sym (e)) in
+    subst (λ (n : Node). SlotIs (c .pane-slot .result) n) (ap pane (c .before .pane-at .ensures ∙ first-of (panesAt bytes t) p) ∙ to) (c .pane-slot .ensures)
 
 -- src/slot.rt:140:1
 returns-2 : tie.Need-returns-2
-returns-2 c = subst (λ (n : Node). SlotIs (c .tabs-slot .result) n) (ap (λ (r : TableRow). rowNode (c .before .before .before .before .before .args .kids .now) (c .before .before .before .before .before .args .i) (rowIs r) (leftAt (tableOf (c .before .before .before .before .before .args .b .now) (c .before .before .before .before .before .args .t)) (c .before .before .before .before .before .args .p) (c .before .before .before .before .before .args .s) (c .before .before .before .before .before .args .m))) (sym (c .before .before .row .given .1))) (c .tabs-slot .ensures)
+returns-2 c =
+    let k = c .before .before .before .before .before .args .kids .now in
+    let i = c .before .before .before .before .before .args .i in
+    let bytes = c .before .before .before .before .before .args .b .now in
+    let t = c .before .before .before .before .before .args .t in
+    let table = tableOf bytes t in
+    let p = c .before .before .before .before .before .args .p in
+    let s = c .before .before .before .before .before .args .s in
+    let m = c .before .before .before .before .before .args .m in
+    let e = c .before .before .row .given .1 in
+    let to = ap (λ (r : TableRow). rowNode k i (rowIs r) (leftAt table p s m)) (sym (e)) in
+    subst (λ (n : Node). SlotIs (c .tabs-slot .result) n) (to) (c .tabs-slot .ensures)
 
 -- src/slot.rt:140:1
 returns-3 : tie.Need-returns-3
-returns-3 c = subst (λ (n : Node). SlotIs (c .split-from .result) n) ((λ j. split (c .before .before .before .before .before .row2 .given .0 .0) (c .before .before .before .children-of .ensures .list j) (c .before .before .reals-of .ensures .list j) (c .before .reals-of2 .ensures .list j)) ∙ ap (λ (r : TableRow). rowNode (c .before .before .before .before .before .before .before .before .args .kids .now) (c .before .before .before .before .before .before .before .before .args .i) (rowIs r) (leftAt (tableOf (c .before .before .before .before .before .before .before .before .args .b .now) (c .before .before .before .before .before .before .before .before .args .t)) (c .before .before .before .before .before .before .before .before .args .p) (c .before .before .before .before .before .before .before .before .args .s) (c .before .before .before .before .before .before .before .before .args .m))) (sym (c .before .before .before .before .before .row2 .given .1))) (c .split-from .ensures)
+returns-3 c =
+    let k = c .before .before .before .before .before .before .before .before .args .kids .now in
+    let i = c .before .before .before .before .before .before .before .before .args .i in
+    let bytes = c .before .before .before .before .before .before .before .before .args .b .now in
+    let t = c .before .before .before .before .before .before .before .before .args .t in
+    let table = tableOf bytes t in
+    let p = c .before .before .before .before .before .before .before .before .args .p in
+    let s = c .before .before .before .before .before .before .before .before .args .s in
+    let m = c .before .before .before .before .before .before .before .before .args .m in
+    let e = c .before .before .before .before .before .row2 .given .1 in
+    let to = ap (λ (r : TableRow). rowNode k i (rowIs r) (leftAt table p s m)) (sym (e)) in
+    subst (λ (n : Node). SlotIs (c .split-from .result) n) ((λ j. split (c .before .before .before .before .before .row2 .given .0 .0) (c .before .before .before .children-of .ensures .list j) (c .before .before .reals-of .ensures .list j) (c .before .reals-of2 .ensures .list j)) ∙ to) (c .split-from .ensures)
 
 pub slot-of-spec : {M : Type 1} → statement M
 slot-of-spec =

@@ -31,23 +31,44 @@ empty-slot-requires c κs = search needs
 
 -- src/slots.rt:23:5
 loop-holds : tie.Need-loop-holds Inv-loop μ-loop
-loop-holds c = slotting-start (c .before .before .args .b .now) (c .before .before .args .t) (c .before .before .args .kids .now) (c .before .before .args .end) (c .before .before .pre) (c .empty-slot .result) (c .empty-slot .ensures)
+loop-holds c =
+    let bytes = c .before .before .args .b .now in
+    let t = c .before .before .args .t in
+    let k = c .before .before .args .kids .now in
+    let end = c .before .before .args .end in
+    let pre = c .before .before .pre in
+    slotting-start bytes t k end (pre) (c .empty-slot .result) (c .empty-slot .ensures)
 
 -- src/slots.rt:24:13
 known-row-requires : tie.Need-known-row-requires Inv-loop μ-loop
-known-row-requires c κs = (c .before .before .before .before .pre .placed, (let w : (c .before .before .before .before .args .end) ≤ (c .before .before .before .before .args .t) .«row_count» = c .before .before .before .before .pre .within in omega (arith, c .loop-test .taken)))
+known-row-requires c κs =
+    let pre = c .before .before .before .before .pre in
+    let end = c .before .before .before .before .args .end in
+    let t = c .before .before .before .before .args .t in
+    (pre .placed, (let w : end ≤ t .«row_count» = pre .within in omega (arith, c .loop-test .taken)))
 
 -- src/slots.rt:25:13
 slot-of-requires : tie.Need-slot-of-requires Inv-loop μ-loop
-slot-of-requires c κs = (c .before .before .before .before .before .pre .placed, (along-room (c .before .before .before .before .before .args .b .now) (c .before .before .before .before .before .args .t) (c .before .before .loop .i) (c .before .before .loop .p) (c .before .before .loop .s) (c .before .before .loop .m) (rowIs (c .known-row .result)) (c .before .before .loop .inv .along) (let w : (c .before .before .before .before .before .args .end) ≤ (c .before .before .before .before .before .args .t) .«row_count» = c .before .before .before .before .before .pre .within in omega (arith, c .before .loop-test .taken)) (c .known-row .ensures)), subst (λ (r : Row). Fit r) (sym (c .known-row .ensures)) (c .before .before .before .before .before .pre .fit (c .before .before .loop .i) (let w : (c .before .before .before .before .before .args .end) ≤ (c .before .before .before .before .before .args .t) .«row_count» = c .before .before .before .before .before .pre .within in omega (arith, c .before .loop-test .taken))), c .before .before .before .before .before .pre .size, omega (arith, c .before .loop-test .taken, c .before .before .before .before .before .pre .within, c .before .before .before .before .before .pre .few))
+slot-of-requires c κs =
+    let pre = c .before .before .before .before .before .pre in
+    let bytes = c .before .before .before .before .before .args .b .now in
+    let t = c .before .before .before .before .before .args .t in
+    let row = rowIs (c .known-row .result) in
+    let end = c .before .before .before .before .before .args .end in
+    let room = along-room bytes t (c .before .before .loop .i) (c .before .before .loop .p) (c .before .before .loop .s) (c .before .before .loop .m) row (c .before .before .loop .inv .along) (let w : end ≤ t .«row_count» = pre .within in omega (arith, c .before .loop-test .taken)) (c .known-row .ensures) in
+    (pre .placed, room, subst (λ (r : Row). Fit r) (sym (c .known-row .ensures)) (pre .fit (c .before .before .loop .i) (let w : end ≤ t .«row_count» = pre .within in omega (arith, c .before .loop-test .taken))), pre .size, omega (arith, c .before .loop-test .taken, pre .within, pre .few))
 
 -- src/slots.rt:26:9
 mul-slots : tie.Need-mul-slots Inv-loop μ-loop
-mul-slots c = omega (arith, c .before .before .loop-test .taken, c .before .before .before .before .before .before .pre .within, c .before .before .before .before .before .before .pre .few)
+mul-slots c =
+    let pre = c .before .before .before .before .before .before .pre in
+    omega (arith, c .before .before .loop-test .taken, pre .within, pre .few)
 
 -- src/slots.rt:26:9
 array-set-from-slots : tie.Need-array-set-from-slots Inv-loop μ-loop
-array-set-from-slots c = omega (arith, c .before .before .loop-test .taken, c .before .before .before .before .before .before .pre .within, c .before .before .before .before .before .before .pre .few)
+array-set-from-slots c =
+    let pre = c .before .before .before .before .before .before .pre in
+    omega (arith, c .before .before .loop-test .taken, pre .within, pre .few)
 
 -- src/slots.rt:27:14
 panes-used-requires : tie.Need-panes-used-requires Inv-loop μ-loop
@@ -55,7 +76,14 @@ panes-used-requires c κs = search needs
 
 -- src/slots.rt:27:9
 add-p : tie.Need-add-p Inv-loop μ-loop
-add-p c = omega (arith, (along-room (c .before .before .before .before .before .before .before .args .b .now) (c .before .before .before .before .before .before .before .args .t) (c .before .before .before .before .loop .i) (c .before .before .before .before .loop .p) (c .before .before .before .before .loop .s) (c .before .before .before .before .loop .m) (rowIs (c .before .before .known-row .result)) (c .before .before .before .before .loop .inv .along) (let w : (c .before .before .before .before .before .before .before .args .end) ≤ (c .before .before .before .before .before .before .before .args .t) .«row_count» = c .before .before .before .before .before .before .before .pre .within in omega (arith, c .before .before .before .loop-test .taken)) (c .before .before .known-row .ensures)) .panes, c .panes-used .ensures, c .before .before .before .before .before .before .before .pre .placed .panes .few)
+add-p c =
+    let bytes = c .before .before .before .before .before .before .before .args .b .now in
+    let t = c .before .before .before .before .before .before .before .args .t in
+    let row = rowIs (c .before .before .known-row .result) in
+    let end = c .before .before .before .before .before .before .before .args .end in
+    let pre = c .before .before .before .before .before .before .before .pre in
+    let room = along-room bytes t (c .before .before .before .before .loop .i) (c .before .before .before .before .loop .p) (c .before .before .before .before .loop .s) (c .before .before .before .before .loop .m) row (c .before .before .before .before .loop .inv .along) (let w : end ≤ t .«row_count» = pre .within in omega (arith, c .before .before .before .loop-test .taken)) (c .before .before .known-row .ensures) in
+    omega (arith, room .panes, c .panes-used .ensures, pre .placed .panes .few)
 
 -- src/slots.rt:28:14
 shares-used-requires : tie.Need-shares-used-requires Inv-loop μ-loop
@@ -63,7 +91,14 @@ shares-used-requires c κs = search needs
 
 -- src/slots.rt:28:9
 add-s : tie.Need-add-s Inv-loop μ-loop
-add-s c = omega (arith, (along-room (c .before .before .before .before .before .before .before .before .args .b .now) (c .before .before .before .before .before .before .before .before .args .t) (c .before .before .before .before .before .loop .i) (c .before .before .before .before .before .loop .p) (c .before .before .before .before .before .loop .s) (c .before .before .before .before .before .loop .m) (rowIs (c .before .before .before .known-row .result)) (c .before .before .before .before .before .loop .inv .along) (let w : (c .before .before .before .before .before .before .before .before .args .end) ≤ (c .before .before .before .before .before .before .before .before .args .t) .«row_count» = c .before .before .before .before .before .before .before .before .pre .within in omega (arith, c .before .before .before .before .loop-test .taken)) (c .before .before .before .known-row .ensures)) .shares, c .shares-used .ensures, c .before .before .before .before .before .before .before .before .pre .placed .shares .few)
+add-s c =
+    let bytes = c .before .before .before .before .before .before .before .before .args .b .now in
+    let t = c .before .before .before .before .before .before .before .before .args .t in
+    let row = rowIs (c .before .before .before .known-row .result) in
+    let end = c .before .before .before .before .before .before .before .before .args .end in
+    let pre = c .before .before .before .before .before .before .before .before .pre in
+    let room = along-room bytes t (c .before .before .before .before .before .loop .i) (c .before .before .before .before .before .loop .p) (c .before .before .before .before .before .loop .s) (c .before .before .before .before .before .loop .m) row (c .before .before .before .before .before .loop .inv .along) (let w : end ≤ t .«row_count» = pre .within in omega (arith, c .before .before .before .before .loop-test .taken)) (c .before .before .before .known-row .ensures) in
+    omega (arith, room .shares, c .shares-used .ensures, pre .placed .shares .few)
 
 -- src/slots.rt:29:14
 minima-used-requires : tie.Need-minima-used-requires Inv-loop μ-loop
@@ -71,11 +106,20 @@ minima-used-requires c κs = search needs
 
 -- src/slots.rt:29:9
 add-m : tie.Need-add-m Inv-loop μ-loop
-add-m c = omega (arith, (along-room (c .before .before .before .before .before .before .before .before .before .args .b .now) (c .before .before .before .before .before .before .before .before .before .args .t) (c .before .before .before .before .before .before .loop .i) (c .before .before .before .before .before .before .loop .p) (c .before .before .before .before .before .before .loop .s) (c .before .before .before .before .before .before .loop .m) (rowIs (c .before .before .before .before .known-row .result)) (c .before .before .before .before .before .before .loop .inv .along) (let w : (c .before .before .before .before .before .before .before .before .before .args .end) ≤ (c .before .before .before .before .before .before .before .before .before .args .t) .«row_count» = c .before .before .before .before .before .before .before .before .before .pre .within in omega (arith, c .before .before .before .before .before .loop-test .taken)) (c .before .before .before .before .known-row .ensures)) .minima, c .minima-used .ensures, c .before .before .before .before .before .before .before .before .before .pre .placed .minima .few)
+add-m c =
+    let bytes = c .before .before .before .before .before .before .before .before .before .args .b .now in
+    let t = c .before .before .before .before .before .before .before .before .before .args .t in
+    let row = rowIs (c .before .before .before .before .known-row .result) in
+    let end = c .before .before .before .before .before .before .before .before .before .args .end in
+    let pre = c .before .before .before .before .before .before .before .before .before .pre in
+    let room = along-room bytes t (c .before .before .before .before .before .before .loop .i) (c .before .before .before .before .before .before .loop .p) (c .before .before .before .before .before .before .loop .s) (c .before .before .before .before .before .before .loop .m) row (c .before .before .before .before .before .before .loop .inv .along) (let w : end ≤ t .«row_count» = pre .within in omega (arith, c .before .before .before .before .before .loop-test .taken)) (c .before .before .before .before .known-row .ensures) in
+    omega (arith, room .minima, c .minima-used .ensures, pre .placed .minima .few)
 
 -- src/slots.rt:30:9
 add-i : tie.Need-add-i Inv-loop μ-loop
-add-i c = omega (arith, c .before .before .before .before .before .loop-test .taken, c .before .before .before .before .before .before .before .before .before .pre .within, c .before .before .before .before .before .before .before .before .before .pre .few)
+add-i c =
+    let pre = c .before .before .before .before .before .before .before .before .before .pre in
+    omega (arith, c .before .before .before .before .before .loop-test .taken, pre .within, pre .few)
 
 -- src/slots.rt:23:5
 loop-less : tie.Need-loop-less Inv-loop μ-loop
@@ -83,11 +127,24 @@ loop-less c = omega (arith, c .before .before .before .before .before .loop-test
 
 -- src/slots.rt:23:5
 loop-again : tie.Need-loop-again Inv-loop μ-loop
-loop-again c = slotting-more (c .before .before .before .before .before .before .before .before .before .args .b .now) (c .before .before .before .before .before .before .before .before .before .args .t) (c .before .before .before .before .before .before .before .before .before .args .kids .now) (c .before .before .before .before .before .before .before .before .before .args .end) (c .before .before .before .before .before .before .before .before .before .pre) (c .before .before .before .before .before .before .loop .i) (c .before .before .before .before .before .before .loop .p) (c .before .before .before .before .before .before .loop .s) (c .before .before .before .before .before .before .loop .m) (c .before .before .before .before .before .before .loop .slots) (c .before .before .before .before .before .before .loop .inv) (c .before .before .before .before .before .loop-test .taken) (rowIs (c .before .before .before .before .known-row .result)) (c .before .before .panes-used .result) (c .before .shares-used .result) (c .minima-used .result) (c .before .before .before .slot-of .result) (c .before .before .before .before .known-row .ensures) (c .before .before .panes-used .ensures) (c .before .shares-used .ensures) (c .minima-used .ensures) (c .before .before .before .slot-of .ensures)
+loop-again c =
+    let bytes = c .before .before .before .before .before .before .before .before .before .args .b .now in
+    let t = c .before .before .before .before .before .before .before .before .before .args .t in
+    let k = c .before .before .before .before .before .before .before .before .before .args .kids .now in
+    let end = c .before .before .before .before .before .before .before .before .before .args .end in
+    let pre = c .before .before .before .before .before .before .before .before .before .pre in
+    let row = rowIs (c .before .before .before .before .known-row .result) in
+    slotting-more bytes t k end (pre) (c .before .before .before .before .before .before .loop .i) (c .before .before .before .before .before .before .loop .p) (c .before .before .before .before .before .before .loop .s) (c .before .before .before .before .before .before .loop .m) (c .before .before .before .before .before .before .loop .slots) (c .before .before .before .before .before .before .loop .inv) (c .before .before .before .before .before .loop-test .taken) row (c .before .before .panes-used .result) (c .before .shares-used .result) (c .minima-used .result) (c .before .before .before .slot-of .result) (c .before .before .before .before .known-row .ensures) (c .before .before .panes-used .ensures) (c .before .shares-used .ensures) (c .minima-used .ensures) (c .before .before .before .slot-of .ensures)
 
 -- src/slots.rt:13:1
 returns : tie.Need-returns Inv-loop μ-loop
-returns c = slotting-end (c .before .before .before .before .args .b .now) (c .before .before .before .before .args .t) (c .before .before .before .before .args .kids .now) (c .before .before .before .before .args .end) (c .before .before .before .before .pre) (c .before .loop .i) (c .before .loop .p) (c .before .loop .s) (c .before .loop .m) (c .before .loop .slots) (c .before .loop .inv) (c .loop-test .left)
+returns c =
+    let bytes = c .before .before .before .before .args .b .now in
+    let t = c .before .before .before .before .args .t in
+    let k = c .before .before .before .before .args .kids .now in
+    let end = c .before .before .before .before .args .end in
+    let pre = c .before .before .before .before .pre in
+    slotting-end bytes t k end (pre) (c .before .loop .i) (c .before .loop .p) (c .before .loop .s) (c .before .loop .m) (c .before .loop .slots) (c .before .loop .inv) (c .loop-test .left)
 
 pub slots-of-spec : {M : Type 1} → statement M
 slots-of-spec =

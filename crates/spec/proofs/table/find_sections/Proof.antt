@@ -25,19 +25,31 @@ enum-told c = search needs
 
 -- src/table.rt:51:9
 returns : tie.Need-returns
-returns c = bad-rows (c .before .before .before .before .args .b .now) (subst (λ (f : Found). SectionAt (c .before .before .before .before .args .b .now) 0 f) (c .enum-told .given .1) (c .before .before .section-at .ensures) .is)
+returns c =
+    let bytes = c .before .before .before .before .args .b .now in
+    let no1 = subst (λ (f : Found). SectionAt bytes 0 f) (c .enum-told .given .1) (c .before .before .section-at .ensures) .is in
+    bad-rows bytes no1
 
 -- src/table.rt:53:61
 mul-section-at : tie.Need-mul-section-at
-mul-section-at c = omega (arith, (subst (λ (f : Found). SectionAt (c .before .before .before .before .before .args .b .now) 0 f) (c .before .rows .given .1) (c .before .before .before .section-at .ensures)) .here .few)
+mul-section-at c =
+    let bytes = c .before .before .before .before .before .args .b .now in
+    let k1 = subst (λ (f : Found). SectionAt bytes 0 f) (c .before .rows .given .1) (c .before .before .before .section-at .ensures) in
+    omega (arith, k1 .here .few)
 
 -- src/table.rt:53:54
 add-section-at : tie.Need-add-section-at
-add-section-at c = omega (arith, (subst (λ (f : Found). SectionAt (c .before .before .before .before .before .args .b .now) 0 f) (c .before .rows .given .1) (c .before .before .before .section-at .ensures)) .here .inside)
+add-section-at c =
+    let bytes = c .before .before .before .before .before .args .b .now in
+    let k1 = subst (λ (f : Found). SectionAt bytes 0 f) (c .before .rows .given .1) (c .before .before .before .section-at .ensures) in
+    omega (arith, k1 .here .inside)
 
 -- src/table.rt:53:40
 section-at-requires-2 : tie.Need-section-at-requires-2
-section-at-requires-2 c κs = (subst (λ (f : Found). SectionAt (c .before .before .before .before .before .args .b .now) 0 f) (c .before .rows .given .1) (c .before .before .before .section-at .ensures)) .here .inside
+section-at-requires-2 c κs =
+    let bytes = c .before .before .before .before .before .args .b .now in
+    let k1 = subst (λ (f : Found). SectionAt bytes 0 f) (c .before .rows .given .1) (c .before .before .before .section-at .ensures) in
+    k1 .here .inside
 
 -- src/table.rt:53:19
 enum-known-panes : tie.Need-enum-known-panes
@@ -49,19 +61,44 @@ enum-told-2 c = search needs
 
 -- src/table.rt:54:9
 returns-2 : tie.Need-returns-2
-returns-2 c = bad-panes (c .before .before .before .before .before .before .before .before .args .b .now) (c .before .before .before .before .rows .given .0 .0) (c .before .before .before .before .rows .given .0 .1 .0) ((subst (λ (f : Found). SectionAt (c .before .before .before .before .before .before .before .before .args .b .now) 0 f) (c .before .before .before .before .rows .given .1) (c .before .before .before .before .before .before .section-at .ensures)) .is) (subst (λ (f : Found). SectionAt (c .before .before .before .before .before .before .before .before .args .b .now) ((c .before .before .before .before .rows .given .0 .0) + 8 * (c .before .before .before .before .rows .given .0 .1 .0)) f) (c .enum-told2 .given .1) (c .before .before .section-at2 .ensures) .is)
+returns-2 c =
+    let bytes = c .before .before .before .before .before .before .before .before .args .b .now in
+    let p1 = c .before .before .before .before .rows .given .0 .0 in
+    let n1 = c .before .before .before .before .rows .given .0 .1 .0 in
+    let k1 = subst (λ (f : Found). SectionAt bytes 0 f) (c .before .before .before .before .rows .given .1) (c .before .before .before .before .before .before .section-at .ensures) in
+    let q2 = p1 + 8 * n1 in
+    let no2 = subst (λ (f : Found). SectionAt bytes q2 f) (c .enum-told2 .given .1) (c .before .before .section-at2 .ensures) .is in
+    bad-panes bytes p1 n1 (k1 .is) no2
 
 -- src/table.rt:56:64
 mul-section-at-2 : tie.Need-mul-section-at-2
-mul-section-at-2 c = omega (arith, (subst (λ (f : Found). SectionAt (c .before .before .before .before .before .before .before .before .before .args .b .now) ((c .before .before .before .before .before .rows .given .0 .0) + 8 * (c .before .before .before .before .before .rows .given .0 .1 .0)) f) (c .before .panes .given .1) (c .before .before .before .section-at2 .ensures)) .here .few)
+mul-section-at-2 c =
+    let bytes = c .before .before .before .before .before .before .before .before .before .args .b .now in
+    let p1 = c .before .before .before .before .before .rows .given .0 .0 in
+    let n1 = c .before .before .before .before .before .rows .given .0 .1 .0 in
+    let q2 = p1 + 8 * n1 in
+    let k2 = subst (λ (f : Found). SectionAt bytes q2 f) (c .before .panes .given .1) (c .before .before .before .section-at2 .ensures) in
+    omega (arith, k2 .here .few)
 
 -- src/table.rt:56:56
 add-section-at-2 : tie.Need-add-section-at-2
-add-section-at-2 c = omega (arith, (subst (λ (f : Found). SectionAt (c .before .before .before .before .before .before .before .before .before .args .b .now) ((c .before .before .before .before .before .rows .given .0 .0) + 8 * (c .before .before .before .before .before .rows .given .0 .1 .0)) f) (c .before .panes .given .1) (c .before .before .before .section-at2 .ensures)) .here .inside)
+add-section-at-2 c =
+    let bytes = c .before .before .before .before .before .before .before .before .before .args .b .now in
+    let p1 = c .before .before .before .before .before .rows .given .0 .0 in
+    let n1 = c .before .before .before .before .before .rows .given .0 .1 .0 in
+    let q2 = p1 + 8 * n1 in
+    let k2 = subst (λ (f : Found). SectionAt bytes q2 f) (c .before .panes .given .1) (c .before .before .before .section-at2 .ensures) in
+    omega (arith, k2 .here .inside)
 
 -- src/table.rt:56:42
 section-at-requires-3 : tie.Need-section-at-requires-3
-section-at-requires-3 c κs = (subst (λ (f : Found). SectionAt (c .before .before .before .before .before .before .before .before .before .args .b .now) ((c .before .before .before .before .before .rows .given .0 .0) + 8 * (c .before .before .before .before .before .rows .given .0 .1 .0)) f) (c .before .panes .given .1) (c .before .before .before .section-at2 .ensures)) .here .inside
+section-at-requires-3 c κs =
+    let bytes = c .before .before .before .before .before .before .before .before .before .args .b .now in
+    let p1 = c .before .before .before .before .before .rows .given .0 .0 in
+    let n1 = c .before .before .before .before .before .rows .given .0 .1 .0 in
+    let q2 = p1 + 8 * n1 in
+    let k2 = subst (λ (f : Found). SectionAt bytes q2 f) (c .before .panes .given .1) (c .before .before .before .section-at2 .ensures) in
+    k2 .here .inside
 
 -- src/table.rt:56:19
 enum-known-shares : tie.Need-enum-known-shares
@@ -73,19 +110,48 @@ enum-told-3 c = search needs
 
 -- src/table.rt:57:9
 returns-3 : tie.Need-returns-3
-returns-3 c = bad-shares (c .before .before .before .before .before .before .before .before .before .before .before .before .args .b .now) (c .before .before .before .before .before .before .before .before .rows .given .0 .0) (c .before .before .before .before .before .before .before .before .rows .given .0 .1 .0) ((subst (λ (f : Found). SectionAt (c .before .before .before .before .before .before .before .before .before .before .before .before .args .b .now) 0 f) (c .before .before .before .before .before .before .before .before .rows .given .1) (c .before .before .before .before .before .before .before .before .before .before .section-at .ensures)) .is) (c .before .before .before .before .panes .given .0 .0) (c .before .before .before .before .panes .given .0 .1 .0) ((subst (λ (f : Found). SectionAt (c .before .before .before .before .before .before .before .before .before .before .before .before .args .b .now) ((c .before .before .before .before .before .before .before .before .rows .given .0 .0) + 8 * (c .before .before .before .before .before .before .before .before .rows .given .0 .1 .0)) f) (c .before .before .before .before .panes .given .1) (c .before .before .before .before .before .before .section-at2 .ensures)) .is) (subst (λ (f : Found). SectionAt (c .before .before .before .before .before .before .before .before .before .before .before .before .args .b .now) ((c .before .before .before .before .panes .given .0 .0) + 8 * (c .before .before .before .before .panes .given .0 .1 .0)) f) (c .enum-told3 .given .1) (c .before .before .section-at3 .ensures) .is)
+returns-3 c =
+    let bytes = c .before .before .before .before .before .before .before .before .before .before .before .before .args .b .now in
+    let p1 = c .before .before .before .before .before .before .before .before .rows .given .0 .0 in
+    let n1 = c .before .before .before .before .before .before .before .before .rows .given .0 .1 .0 in
+    let k1 = subst (λ (f : Found). SectionAt bytes 0 f) (c .before .before .before .before .before .before .before .before .rows .given .1) (c .before .before .before .before .before .before .before .before .before .before .section-at .ensures) in
+    let p2 = c .before .before .before .before .panes .given .0 .0 in
+    let n2 = c .before .before .before .before .panes .given .0 .1 .0 in
+    let q2 = p1 + 8 * n1 in
+    let k2 = subst (λ (f : Found). SectionAt bytes q2 f) (c .before .before .before .before .panes .given .1) (c .before .before .before .before .before .before .section-at2 .ensures) in
+    let q3 = p2 + 8 * n2 in
+    let no3 = subst (λ (f : Found). SectionAt bytes q3 f) (c .enum-told3 .given .1) (c .before .before .section-at3 .ensures) .is in
+    bad-shares bytes p1 n1 (k1 .is) p2 n2 (k2 .is) no3
 
 -- src/table.rt:59:67
 mul-section-at-3 : tie.Need-mul-section-at-3
-mul-section-at-3 c = omega (arith, (subst (λ (f : Found). SectionAt (c .before .before .before .before .before .before .before .before .before .before .before .before .before .args .b .now) ((c .before .before .before .before .before .panes .given .0 .0) + 8 * (c .before .before .before .before .before .panes .given .0 .1 .0)) f) (c .before .shares .given .1) (c .before .before .before .section-at3 .ensures)) .here .few)
+mul-section-at-3 c =
+    let bytes = c .before .before .before .before .before .before .before .before .before .before .before .before .before .args .b .now in
+    let p2 = c .before .before .before .before .before .panes .given .0 .0 in
+    let n2 = c .before .before .before .before .before .panes .given .0 .1 .0 in
+    let q3 = p2 + 8 * n2 in
+    let k3 = subst (λ (f : Found). SectionAt bytes q3 f) (c .before .shares .given .1) (c .before .before .before .section-at3 .ensures) in
+    omega (arith, k3 .here .few)
 
 -- src/table.rt:59:58
 add-section-at-3 : tie.Need-add-section-at-3
-add-section-at-3 c = omega (arith, (subst (λ (f : Found). SectionAt (c .before .before .before .before .before .before .before .before .before .before .before .before .before .args .b .now) ((c .before .before .before .before .before .panes .given .0 .0) + 8 * (c .before .before .before .before .before .panes .given .0 .1 .0)) f) (c .before .shares .given .1) (c .before .before .before .section-at3 .ensures)) .here .inside)
+add-section-at-3 c =
+    let bytes = c .before .before .before .before .before .before .before .before .before .before .before .before .before .args .b .now in
+    let p2 = c .before .before .before .before .before .panes .given .0 .0 in
+    let n2 = c .before .before .before .before .before .panes .given .0 .1 .0 in
+    let q3 = p2 + 8 * n2 in
+    let k3 = subst (λ (f : Found). SectionAt bytes q3 f) (c .before .shares .given .1) (c .before .before .before .section-at3 .ensures) in
+    omega (arith, k3 .here .inside)
 
 -- src/table.rt:59:44
 section-at-requires-4 : tie.Need-section-at-requires-4
-section-at-requires-4 c κs = (subst (λ (f : Found). SectionAt (c .before .before .before .before .before .before .before .before .before .before .before .before .before .args .b .now) ((c .before .before .before .before .before .panes .given .0 .0) + 8 * (c .before .before .before .before .before .panes .given .0 .1 .0)) f) (c .before .shares .given .1) (c .before .before .before .section-at3 .ensures)) .here .inside
+section-at-requires-4 c κs =
+    let bytes = c .before .before .before .before .before .before .before .before .before .before .before .before .before .args .b .now in
+    let p2 = c .before .before .before .before .before .panes .given .0 .0 in
+    let n2 = c .before .before .before .before .before .panes .given .0 .1 .0 in
+    let q3 = p2 + 8 * n2 in
+    let k3 = subst (λ (f : Found). SectionAt bytes q3 f) (c .before .shares .given .1) (c .before .before .before .section-at3 .ensures) in
+    k3 .here .inside
 
 -- src/table.rt:59:19
 enum-known-minima : tie.Need-enum-known-minima
@@ -97,23 +163,84 @@ enum-told-4 c = search needs
 
 -- src/table.rt:60:9
 returns-4 : tie.Need-returns-4
-returns-4 c = bad-minima (c .before .before .before .before .before .before .before .before .before .before .before .before .before .before .before .before .args .b .now) (c .before .before .before .before .before .before .before .before .before .before .before .before .rows .given .0 .0) (c .before .before .before .before .before .before .before .before .before .before .before .before .rows .given .0 .1 .0) ((subst (λ (f : Found). SectionAt (c .before .before .before .before .before .before .before .before .before .before .before .before .before .before .before .before .args .b .now) 0 f) (c .before .before .before .before .before .before .before .before .before .before .before .before .rows .given .1) (c .before .before .before .before .before .before .before .before .before .before .before .before .before .before .section-at .ensures)) .is) (c .before .before .before .before .before .before .before .before .panes .given .0 .0) (c .before .before .before .before .before .before .before .before .panes .given .0 .1 .0) ((subst (λ (f : Found). SectionAt (c .before .before .before .before .before .before .before .before .before .before .before .before .before .before .before .before .args .b .now) ((c .before .before .before .before .before .before .before .before .before .before .before .before .rows .given .0 .0) + 8 * (c .before .before .before .before .before .before .before .before .before .before .before .before .rows .given .0 .1 .0)) f) (c .before .before .before .before .before .before .before .before .panes .given .1) (c .before .before .before .before .before .before .before .before .before .before .section-at2 .ensures)) .is) (c .before .before .before .before .shares .given .0 .0) (c .before .before .before .before .shares .given .0 .1 .0) ((subst (λ (f : Found). SectionAt (c .before .before .before .before .before .before .before .before .before .before .before .before .before .before .before .before .args .b .now) ((c .before .before .before .before .before .before .before .before .panes .given .0 .0) + 8 * (c .before .before .before .before .before .before .before .before .panes .given .0 .1 .0)) f) (c .before .before .before .before .shares .given .1) (c .before .before .before .before .before .before .section-at3 .ensures)) .is) (subst (λ (f : Found). SectionAt (c .before .before .before .before .before .before .before .before .before .before .before .before .before .before .before .before .args .b .now) ((c .before .before .before .before .shares .given .0 .0) + 8 * (c .before .before .before .before .shares .given .0 .1 .0)) f) (c .enum-told4 .given .1) (c .before .before .section-at4 .ensures) .is)
+returns-4 c =
+    let bytes = c .before .before .before .before .before .before .before .before .before .before .before .before .before .before .before .before .args .b .now in
+    let p1 = c .before .before .before .before .before .before .before .before .before .before .before .before .rows .given .0 .0 in
+    let n1 = c .before .before .before .before .before .before .before .before .before .before .before .before .rows .given .0 .1 .0 in
+    let k1 = subst (λ (f : Found). SectionAt bytes 0 f) (c .before .before .before .before .before .before .before .before .before .before .before .before .rows .given .1) (c .before .before .before .before .before .before .before .before .before .before .before .before .before .before .section-at .ensures) in
+    let p2 = c .before .before .before .before .before .before .before .before .panes .given .0 .0 in
+    let n2 = c .before .before .before .before .before .before .before .before .panes .given .0 .1 .0 in
+    let q2 = p1 + 8 * n1 in
+    let k2 = subst (λ (f : Found). SectionAt bytes q2 f) (c .before .before .before .before .before .before .before .before .panes .given .1) (c .before .before .before .before .before .before .before .before .before .before .section-at2 .ensures) in
+    let p3 = c .before .before .before .before .shares .given .0 .0 in
+    let n3 = c .before .before .before .before .shares .given .0 .1 .0 in
+    let q3 = p2 + 8 * n2 in
+    let k3 = subst (λ (f : Found). SectionAt bytes q3 f) (c .before .before .before .before .shares .given .1) (c .before .before .before .before .before .before .section-at3 .ensures) in
+    let q4 = p3 + 8 * n3 in
+    let no4 = subst (λ (f : Found). SectionAt bytes q4 f) (c .enum-told4 .given .1) (c .before .before .section-at4 .ensures) .is in
+    bad-minima bytes p1 n1 (k1 .is) p2 n2 (k2 .is) p3 n3 (k3 .is) no4
 
 -- src/table.rt:62:24
 mul-end : tie.Need-mul-end
-mul-end c = omega (arith, (subst (λ (f : Found). SectionAt (c .before .before .before .before .before .before .before .before .before .before .before .before .before .before .before .before .before .args .b .now) ((c .before .before .before .before .before .shares .given .0 .0) + 8 * (c .before .before .before .before .before .shares .given .0 .1 .0)) f) (c .before .minima .given .1) (c .before .before .before .section-at4 .ensures)) .here .few)
+mul-end c =
+    let bytes = c .before .before .before .before .before .before .before .before .before .before .before .before .before .before .before .before .before .args .b .now in
+    let p3 = c .before .before .before .before .before .shares .given .0 .0 in
+    let n3 = c .before .before .before .before .before .shares .given .0 .1 .0 in
+    let q4 = p3 + 8 * n3 in
+    let k4 = subst (λ (f : Found). SectionAt bytes q4 f) (c .before .minima .given .1) (c .before .before .before .section-at4 .ensures) in
+    omega (arith, k4 .here .few)
 
 -- src/table.rt:62:15
 add-end : tie.Need-add-end
-add-end c = omega (arith, (subst (λ (f : Found). SectionAt (c .before .before .before .before .before .before .before .before .before .before .before .before .before .before .before .before .before .args .b .now) ((c .before .before .before .before .before .shares .given .0 .0) + 8 * (c .before .before .before .before .before .shares .given .0 .1 .0)) f) (c .before .minima .given .1) (c .before .before .before .section-at4 .ensures)) .here .inside)
+add-end c =
+    let bytes = c .before .before .before .before .before .before .before .before .before .before .before .before .before .before .before .before .before .args .b .now in
+    let p3 = c .before .before .before .before .before .shares .given .0 .0 in
+    let n3 = c .before .before .before .before .before .shares .given .0 .1 .0 in
+    let q4 = p3 + 8 * n3 in
+    let k4 = subst (λ (f : Found). SectionAt bytes q4 f) (c .before .minima .given .1) (c .before .before .before .section-at4 .ensures) in
+    omega (arith, k4 .here .inside)
 
 -- src/table.rt:64:9
 returns-5 : tie.Need-returns-5
-returns-5 c = trailing (c .before .before .before .before .before .before .before .before .before .before .before .before .before .before .before .before .before .before .args .b .now) (c .before .before .before .before .before .before .before .before .before .before .before .before .before .before .rows .given .0 .0) (c .before .before .before .before .before .before .before .before .before .before .before .before .before .before .rows .given .0 .1 .0) ((subst (λ (f : Found). SectionAt (c .before .before .before .before .before .before .before .before .before .before .before .before .before .before .before .before .before .before .args .b .now) 0 f) (c .before .before .before .before .before .before .before .before .before .before .before .before .before .before .rows .given .1) (c .before .before .before .before .before .before .before .before .before .before .before .before .before .before .before .before .section-at .ensures)) .is) (c .before .before .before .before .before .before .before .before .before .before .panes .given .0 .0) (c .before .before .before .before .before .before .before .before .before .before .panes .given .0 .1 .0) ((subst (λ (f : Found). SectionAt (c .before .before .before .before .before .before .before .before .before .before .before .before .before .before .before .before .before .before .args .b .now) ((c .before .before .before .before .before .before .before .before .before .before .before .before .before .before .rows .given .0 .0) + 8 * (c .before .before .before .before .before .before .before .before .before .before .before .before .before .before .rows .given .0 .1 .0)) f) (c .before .before .before .before .before .before .before .before .before .before .panes .given .1) (c .before .before .before .before .before .before .before .before .before .before .before .before .section-at2 .ensures)) .is) (c .before .before .before .before .before .before .shares .given .0 .0) (c .before .before .before .before .before .before .shares .given .0 .1 .0) ((subst (λ (f : Found). SectionAt (c .before .before .before .before .before .before .before .before .before .before .before .before .before .before .before .before .before .before .args .b .now) ((c .before .before .before .before .before .before .before .before .before .before .panes .given .0 .0) + 8 * (c .before .before .before .before .before .before .before .before .before .before .panes .given .0 .1 .0)) f) (c .before .before .before .before .before .before .shares .given .1) (c .before .before .before .before .before .before .before .before .section-at3 .ensures)) .is) (c .before .before .minima .given .0 .0) (c .before .before .minima .given .0 .1 .0) ((subst (λ (f : Found). SectionAt (c .before .before .before .before .before .before .before .before .before .before .before .before .before .before .before .before .before .before .args .b .now) ((c .before .before .before .before .before .before .shares .given .0 .0) + 8 * (c .before .before .before .before .before .before .shares .given .0 .1 .0)) f) (c .before .before .minima .given .1) (c .before .before .before .before .section-at4 .ensures)) .is) ((subst (λ (f : Found). SectionAt (c .before .before .before .before .before .before .before .before .before .before .before .before .before .before .before .before .before .before .args .b .now) ((c .before .before .before .before .before .before .shares .given .0 .0) + 8 * (c .before .before .before .before .before .before .shares .given .0 .1 .0)) f) (c .before .before .minima .given .1) (c .before .before .before .before .section-at4 .ensures)) .here .inside) (c .if1 .taken)
+returns-5 c =
+    let bytes = c .before .before .before .before .before .before .before .before .before .before .before .before .before .before .before .before .before .before .args .b .now in
+    let p1 = c .before .before .before .before .before .before .before .before .before .before .before .before .before .before .rows .given .0 .0 in
+    let n1 = c .before .before .before .before .before .before .before .before .before .before .before .before .before .before .rows .given .0 .1 .0 in
+    let k1 = subst (λ (f : Found). SectionAt bytes 0 f) (c .before .before .before .before .before .before .before .before .before .before .before .before .before .before .rows .given .1) (c .before .before .before .before .before .before .before .before .before .before .before .before .before .before .before .before .section-at .ensures) in
+    let p2 = c .before .before .before .before .before .before .before .before .before .before .panes .given .0 .0 in
+    let n2 = c .before .before .before .before .before .before .before .before .before .before .panes .given .0 .1 .0 in
+    let q2 = p1 + 8 * n1 in
+    let k2 = subst (λ (f : Found). SectionAt bytes q2 f) (c .before .before .before .before .before .before .before .before .before .before .panes .given .1) (c .before .before .before .before .before .before .before .before .before .before .before .before .section-at2 .ensures) in
+    let p3 = c .before .before .before .before .before .before .shares .given .0 .0 in
+    let n3 = c .before .before .before .before .before .before .shares .given .0 .1 .0 in
+    let q3 = p2 + 8 * n2 in
+    let k3 = subst (λ (f : Found). SectionAt bytes q3 f) (c .before .before .before .before .before .before .shares .given .1) (c .before .before .before .before .before .before .before .before .section-at3 .ensures) in
+    let p4 = c .before .before .minima .given .0 .0 in
+    let n4 = c .before .before .minima .given .0 .1 .0 in
+    let q4 = p3 + 8 * n3 in
+    let k4 = subst (λ (f : Found). SectionAt bytes q4 f) (c .before .before .minima .given .1) (c .before .before .before .before .section-at4 .ensures) in
+    trailing bytes p1 n1 (k1 .is) p2 n2 (k2 .is) p3 n3 (k3 .is) p4 n4 (k4 .is) (k4 .here .inside) (c .if1 .taken)
 
 -- src/table.rt:47:1
 returns-6 : tie.Need-returns-6
-returns-6 c = no-more (c .before .before .before .before .before .before .before .before .before .before .before .before .before .before .before .before .before .before .args .b .now) (c .before .before .before .before .before .before .before .before .before .before .before .before .before .before .rows .given .0 .0) (c .before .before .before .before .before .before .before .before .before .before .before .before .before .before .rows .given .0 .1 .0) ((subst (λ (f : Found). SectionAt (c .before .before .before .before .before .before .before .before .before .before .before .before .before .before .before .before .before .before .args .b .now) 0 f) (c .before .before .before .before .before .before .before .before .before .before .before .before .before .before .rows .given .1) (c .before .before .before .before .before .before .before .before .before .before .before .before .before .before .before .before .section-at .ensures)) .is) (c .before .before .before .before .before .before .before .before .before .before .panes .given .0 .0) (c .before .before .before .before .before .before .before .before .before .before .panes .given .0 .1 .0) ((subst (λ (f : Found). SectionAt (c .before .before .before .before .before .before .before .before .before .before .before .before .before .before .before .before .before .before .args .b .now) ((c .before .before .before .before .before .before .before .before .before .before .before .before .before .before .rows .given .0 .0) + 8 * (c .before .before .before .before .before .before .before .before .before .before .before .before .before .before .rows .given .0 .1 .0)) f) (c .before .before .before .before .before .before .before .before .before .before .panes .given .1) (c .before .before .before .before .before .before .before .before .before .before .before .before .section-at2 .ensures)) .is) (c .before .before .before .before .before .before .shares .given .0 .0) (c .before .before .before .before .before .before .shares .given .0 .1 .0) ((subst (λ (f : Found). SectionAt (c .before .before .before .before .before .before .before .before .before .before .before .before .before .before .before .before .before .before .args .b .now) ((c .before .before .before .before .before .before .before .before .before .before .panes .given .0 .0) + 8 * (c .before .before .before .before .before .before .before .before .before .before .panes .given .0 .1 .0)) f) (c .before .before .before .before .before .before .shares .given .1) (c .before .before .before .before .before .before .before .before .section-at3 .ensures)) .is) (c .before .before .minima .given .0 .0) (c .before .before .minima .given .0 .1 .0) ((subst (λ (f : Found). SectionAt (c .before .before .before .before .before .before .before .before .before .before .before .before .before .before .before .before .before .before .args .b .now) ((c .before .before .before .before .before .before .shares .given .0 .0) + 8 * (c .before .before .before .before .before .before .shares .given .0 .1 .0)) f) (c .before .before .minima .given .1) (c .before .before .before .before .section-at4 .ensures)) .is) ((subst (λ (f : Found). SectionAt (c .before .before .before .before .before .before .before .before .before .before .before .before .before .before .before .before .before .before .args .b .now) 0 f) (c .before .before .before .before .before .before .before .before .before .before .before .before .before .before .rows .given .1) (c .before .before .before .before .before .before .before .before .before .before .before .before .before .before .before .before .section-at .ensures)) .here) ((subst (λ (f : Found). SectionAt (c .before .before .before .before .before .before .before .before .before .before .before .before .before .before .before .before .before .before .args .b .now) ((c .before .before .before .before .before .before .before .before .before .before .before .before .before .before .rows .given .0 .0) + 8 * (c .before .before .before .before .before .before .before .before .before .before .before .before .before .before .rows .given .0 .1 .0)) f) (c .before .before .before .before .before .before .before .before .before .before .panes .given .1) (c .before .before .before .before .before .before .before .before .before .before .before .before .section-at2 .ensures)) .here) ((subst (λ (f : Found). SectionAt (c .before .before .before .before .before .before .before .before .before .before .before .before .before .before .before .before .before .before .args .b .now) ((c .before .before .before .before .before .before .before .before .before .before .panes .given .0 .0) + 8 * (c .before .before .before .before .before .before .before .before .before .before .panes .given .0 .1 .0)) f) (c .before .before .before .before .before .before .shares .given .1) (c .before .before .before .before .before .before .before .before .section-at3 .ensures)) .here) ((subst (λ (f : Found). SectionAt (c .before .before .before .before .before .before .before .before .before .before .before .before .before .before .before .before .before .before .args .b .now) ((c .before .before .before .before .before .before .shares .given .0 .0) + 8 * (c .before .before .before .before .before .before .shares .given .0 .1 .0)) f) (c .before .before .minima .given .1) (c .before .before .before .before .section-at4 .ensures)) .here) (c .if1 .left)
+returns-6 c =
+    let bytes = c .before .before .before .before .before .before .before .before .before .before .before .before .before .before .before .before .before .before .args .b .now in
+    let p1 = c .before .before .before .before .before .before .before .before .before .before .before .before .before .before .rows .given .0 .0 in
+    let n1 = c .before .before .before .before .before .before .before .before .before .before .before .before .before .before .rows .given .0 .1 .0 in
+    let k1 = subst (λ (f : Found). SectionAt bytes 0 f) (c .before .before .before .before .before .before .before .before .before .before .before .before .before .before .rows .given .1) (c .before .before .before .before .before .before .before .before .before .before .before .before .before .before .before .before .section-at .ensures) in
+    let p2 = c .before .before .before .before .before .before .before .before .before .before .panes .given .0 .0 in
+    let n2 = c .before .before .before .before .before .before .before .before .before .before .panes .given .0 .1 .0 in
+    let q2 = p1 + 8 * n1 in
+    let k2 = subst (λ (f : Found). SectionAt bytes q2 f) (c .before .before .before .before .before .before .before .before .before .before .panes .given .1) (c .before .before .before .before .before .before .before .before .before .before .before .before .section-at2 .ensures) in
+    let p3 = c .before .before .before .before .before .before .shares .given .0 .0 in
+    let n3 = c .before .before .before .before .before .before .shares .given .0 .1 .0 in
+    let q3 = p2 + 8 * n2 in
+    let k3 = subst (λ (f : Found). SectionAt bytes q3 f) (c .before .before .before .before .before .before .shares .given .1) (c .before .before .before .before .before .before .before .before .section-at3 .ensures) in
+    let p4 = c .before .before .minima .given .0 .0 in
+    let n4 = c .before .before .minima .given .0 .1 .0 in
+    let q4 = p3 + 8 * n3 in
+    let k4 = subst (λ (f : Found). SectionAt bytes q4 f) (c .before .before .minima .given .1) (c .before .before .before .before .section-at4 .ensures) in
+    no-more bytes p1 n1 (k1 .is) p2 n2 (k2 .is) p3 n3 (k3 .is) p4 n4 (k4 .is) (k1 .here) (k2 .here) (k3 .here) (k4 .here) (c .if1 .left)
 
 pub find-sections-spec : {M : Type 1} → statement M
 find-sections-spec =

@@ -12,7 +12,9 @@ sub-if1 c = search needs
 
 -- src/table.rt:37:9
 returns : tie.Need-returns
-returns c = short-count (c .before .before .args .b .now) (c .before .before .args .p) (c .if1 .taken)
+returns c =
+    let bytes = c .before .before .args .b .now in
+    short-count bytes (c .before .before .args .p) (c .if1 .taken)
 
 -- src/table.rt:39:13
 count-requires : tie.Need-count-requires
@@ -32,7 +34,9 @@ mul-if2 c = search needs
 
 -- src/table.rt:41:9
 returns-2 : tie.Need-returns-2
-returns-2 c = short-entries (c .before .before .before .before .args .b .now) (c .before .before .before .before .args .p) (c .before .count .result) (c .before .before .if1 .left) (c .before .count .ensures .0) (c .if2 .taken)
+returns-2 c =
+    let bytes = c .before .before .before .before .args .b .now in
+    short-entries bytes (c .before .before .before .before .args .p) (c .before .count .result) (c .before .before .if1 .left) (c .before .count .ensures .0) (c .if2 .taken)
 
 -- src/table.rt:43:15
 add-t5 : tie.Need-add-t5
@@ -40,7 +44,9 @@ add-t5 c = search needs
 
 -- src/table.rt:31:1
 returns-3 : tie.Need-returns-3
-returns-3 c = section-found (c .before .before .before .before .args .b .now) (c .before .before .before .before .args .p) (c .before .count .result) (c .before .before .if1 .left) (c .before .count .ensures .0) (c .before .count .ensures .1) (c .if2 .left)
+returns-3 c =
+    let bytes = c .before .before .before .before .args .b .now in
+    section-found bytes (c .before .before .before .before .args .p) (c .before .count .result) (c .before .before .if1 .left) (c .before .count .ensures .0) (c .before .count .ensures .1) (c .if2 .left)
 
 pub section-at-spec : {M : Type 1} → statement M
 section-at-spec =

@@ -26,7 +26,14 @@ abbrev μ-loop : tie.MeasureT-loop
 
 -- src/validate.rt:85:5
 loop-holds : tie.Need-loop-holds Inv-loop μ-loop
-loop-holds c = (omega arith, passed-none (λ (x : Float). not (shareOk x)) (take (c .before .args .n) (drop (c .before .args .from) (realsAt (c .before .args .b .now) (c .before .args .start) (c .before .args .count)))))
+loop-holds c =
+    let n = c .before .args .n in
+    let f = c .before .args .from in
+    let bytes = c .before .args .b .now in
+    let s = c .before .args .start in
+    let count = c .before .args .count in
+    let xs = realsAt bytes s count in
+    (omega arith, passed-none (λ (x : Float). not (shareOk x)) (take n (drop f xs)))
 
 -- src/validate.rt:86:42
 add-real-at : tie.Need-add-real-at Inv-loop μ-loop
@@ -42,7 +49,14 @@ share-ok-requires c κs = search needs
 
 -- src/validate.rt:88:13
 returns : tie.Need-returns Inv-loop μ-loop
-returns c = part-found (λ (x : Float). not (shareOk x)) (realsAt (c .before .before .before .before .before .before .args .b .now) (c .before .before .before .before .before .before .args .start) (c .before .before .before .before .before .before .args .count)) (c .before .before .before .before .before .before .args .from) (c .before .before .before .before .before .before .args .n) (let l = length-entries (c .before .before .before .before .before .before .args .b .now) (c .before .before .before .before .before .before .args .start) (c .before .before .before .before .before .before .args .count) real in omega (arith, c .before .before .before .before .before .before .pre .1)) zero-f (c .before .before .before .before .loop .i) (c .before .before .before .loop-test .taken) (c .before .before .real-at .result) (c .before .before .real-at .ensures) (ap not (sym (c .before .share-ok .ensures)) ∙ c .if1 .taken) (c .before .before .before .before .loop .inv .1)
+returns c =
+    let bytes = c .before .before .before .before .before .before .args .b .now in
+    let s = c .before .before .before .before .before .before .args .start in
+    let count = c .before .before .before .before .before .before .args .count in
+    let xs = realsAt bytes s count in
+    let f = c .before .before .before .before .before .before .args .from in
+    let n = c .before .before .before .before .before .before .args .n in
+    part-found (λ (x : Float). not (shareOk x)) xs f n (let l = length-entries bytes s count real in omega (arith, c .before .before .before .before .before .before .pre .1)) zero-f (c .before .before .before .before .loop .i) (c .before .before .before .loop-test .taken) (c .before .before .real-at .result) (c .before .before .real-at .ensures) (ap not (sym (c .before .share-ok .ensures)) ∙ c .if1 .taken) (c .before .before .before .before .loop .inv .1)
 
 -- src/validate.rt:90:9
 add-i : tie.Need-add-i Inv-loop μ-loop
@@ -54,11 +68,25 @@ loop-less c = omega (arith, c .before .before .before .loop-test .taken)
 
 -- src/validate.rt:85:5
 loop-again : tie.Need-loop-again Inv-loop μ-loop
-loop-again c = (omega (arith, c .before .before .before .loop-test .taken), part-more (λ (x : Float). not (shareOk x)) (realsAt (c .before .before .before .before .before .before .args .b .now) (c .before .before .before .before .before .before .args .start) (c .before .before .before .before .before .before .args .count)) (c .before .before .before .before .before .before .args .from) (c .before .before .before .before .before .before .args .n) (let l = length-entries (c .before .before .before .before .before .before .args .b .now) (c .before .before .before .before .before .before .args .start) (c .before .before .before .before .before .before .args .count) real in omega (arith, c .before .before .before .before .before .before .pre .1)) zero-f (c .before .before .before .before .loop .i) (c .before .before .before .loop-test .taken) (c .before .before .real-at .result) (c .before .before .real-at .ensures) (ap not (sym (c .before .share-ok .ensures)) ∙ c .if1 .left) (c .before .before .before .before .loop .inv .1))
+loop-again c =
+    let bytes = c .before .before .before .before .before .before .args .b .now in
+    let s = c .before .before .before .before .before .before .args .start in
+    let count = c .before .before .before .before .before .before .args .count in
+    let xs = realsAt bytes s count in
+    let f = c .before .before .before .before .before .before .args .from in
+    let n = c .before .before .before .before .before .before .args .n in
+    (omega (arith, c .before .before .before .loop-test .taken), part-more (λ (x : Float). not (shareOk x)) xs f n (let l = length-entries bytes s count real in omega (arith, c .before .before .before .before .before .before .pre .1)) zero-f (c .before .before .before .before .loop .i) (c .before .before .before .loop-test .taken) (c .before .before .real-at .result) (c .before .before .real-at .ensures) (ap not (sym (c .before .share-ok .ensures)) ∙ c .if1 .left) (c .before .before .before .before .loop .inv .1))
 
 -- src/validate.rt:80:1
 returns-2 : tie.Need-returns-2 Inv-loop μ-loop
-returns-2 c = part-none (λ (x : Float). not (shareOk x)) (realsAt (c .before .before .before .args .b .now) (c .before .before .before .args .start) (c .before .before .before .args .count)) (c .before .before .before .args .from) (c .before .before .before .args .n) (let l = length-entries (c .before .before .before .args .b .now) (c .before .before .before .args .start) (c .before .before .before .args .count) real in omega (arith, c .before .before .before .pre .1)) zero-f (c .before .loop .i) (c .loop-test .left) (c .before .loop .inv .1)
+returns-2 c =
+    let bytes = c .before .before .before .args .b .now in
+    let s = c .before .before .before .args .start in
+    let count = c .before .before .before .args .count in
+    let xs = realsAt bytes s count in
+    let f = c .before .before .before .args .from in
+    let n = c .before .before .before .args .n in
+    part-none (λ (x : Float). not (shareOk x)) xs f n (let l = length-entries bytes s count real in omega (arith, c .before .before .before .pre .1)) zero-f (c .before .loop .i) (c .loop-test .left) (c .before .loop .inv .1)
 
 pub bad-share-spec : {M : Type 1} → statement M
 bad-share-spec =

@@ -20,7 +20,14 @@ enum-told c = search needs
 
 -- src/validate.rt:146:27
 first-duplicate-requires : tie.Need-first-duplicate-requires
-first-duplicate-requires c κs = (c .before .before .before .pre .0, (subst (λ (r : TableRow). Room (c .before .before .before .args .t) (rowIs r) (c .before .before .before .args .p) (c .before .before .before .args .s) (c .before .before .before .args .m)) (c .enum-told .given .1) (c .before .before .before .pre .1)) .panes)
+first-duplicate-requires c κs =
+    let t = c .before .before .before .args .t in
+    let p = c .before .before .before .args .p in
+    let s = c .before .before .before .args .s in
+    let m = c .before .before .before .args .m in
+    let e = c .enum-told .given .1 in
+    let rm = subst (λ (r : TableRow). Room t (rowIs r) p s m) (e) (c .before .before .before .pre .1) in
+    (c .before .before .before .pre .0, rm .panes)
 
 -- src/validate.rt:149:13
 enum-known-row : tie.Need-enum-known-row
@@ -28,7 +35,14 @@ enum-known-row c = search needs
 
 -- src/validate.rt:151:14
 check-tabs-requires : tie.Need-check-tabs-requires
-check-tabs-requires c κs = (c .before .before .before .before .pre .0, (subst (λ (r : TableRow). Room (c .before .before .before .before .args .t) (rowIs r) (c .before .before .before .before .args .p) (c .before .before .before .before .args .s) (c .before .before .before .before .args .m)) (c .before .row .given .1) (c .before .before .before .before .pre .1)) .panes)
+check-tabs-requires c κs =
+    let t = c .before .before .before .before .args .t in
+    let p = c .before .before .before .before .args .p in
+    let s = c .before .before .before .before .args .s in
+    let m = c .before .before .before .before .args .m in
+    let e = c .before .row .given .1 in
+    let rm = subst (λ (r : TableRow). Room t (rowIs r) p s m) (e) (c .before .before .before .before .pre .1) in
+    (c .before .before .before .before .pre .0, rm .panes)
 
 -- src/validate.rt:154:13
 enum-known-row-2 : tie.Need-enum-known-row-2
@@ -36,19 +50,53 @@ enum-known-row-2 c = search needs
 
 -- src/validate.rt:157:14
 check-split-requires : tie.Need-check-split-requires
-check-split-requires c κs = (c .before .before .before .before .pre .0, (subst (λ (r : TableRow). Room (c .before .before .before .before .args .t) (rowIs r) (c .before .before .before .before .args .p) (c .before .before .before .before .args .s) (c .before .before .before .before .args .m)) (c .before .row2 .given .1) (c .before .before .before .before .pre .1)) .shares, (subst (λ (r : TableRow). Room (c .before .before .before .before .args .t) (rowIs r) (c .before .before .before .before .args .p) (c .before .before .before .before .args .s) (c .before .before .before .before .args .m)) (c .before .row2 .given .1) (c .before .before .before .before .pre .1)) .minima)
+check-split-requires c κs =
+    let t = c .before .before .before .before .args .t in
+    let p = c .before .before .before .before .args .p in
+    let s = c .before .before .before .before .args .s in
+    let m = c .before .before .before .before .args .m in
+    let e = c .before .row2 .given .1 in
+    let rm = subst (λ (r : TableRow). Room t (rowIs r) p s m) (e) (c .before .before .before .before .pre .1) in
+    (c .before .before .before .before .pre .0, rm .shares, rm .minima)
 
 -- src/validate.rt:141:1
 returns : tie.Need-returns
-returns c = c .first-duplicate .ensures ∙ ap (λ (r : TableRow). rowRefusal (rowIs r) (leftAt (tableOf (c .before .before .before .before .args .b .now) (c .before .before .before .before .args .t)) (c .before .before .before .before .args .p) (c .before .before .before .before .args .s) (c .before .before .before .before .args .m)) (take (c .before .before .before .before .args .p) (panesAt (c .before .before .before .before .args .b .now) (c .before .before .before .before .args .t)))) (sym (c .before .enum-told .given .1))
+returns c =
+    let bytes = c .before .before .before .before .args .b .now in
+    let t = c .before .before .before .before .args .t in
+    let table = tableOf bytes t in
+    let p = c .before .before .before .before .args .p in
+    let s = c .before .before .before .before .args .s in
+    let m = c .before .before .before .before .args .m in
+    let e = c .before .enum-told .given .1 in
+    let to = ap (λ (r : TableRow). rowRefusal (rowIs r) (leftAt table p s m) (take p (panesAt bytes t))) (sym (e)) in
+    c .first-duplicate .ensures ∙ to
 
 -- src/validate.rt:141:1
 returns-2 : tie.Need-returns-2
-returns-2 c = c .check-tabs .ensures ∙ ap (λ (r : TableRow). rowRefusal (rowIs r) (leftAt (tableOf (c .before .before .before .before .before .args .b .now) (c .before .before .before .before .before .args .t)) (c .before .before .before .before .before .args .p) (c .before .before .before .before .before .args .s) (c .before .before .before .before .before .args .m)) (take (c .before .before .before .before .before .args .p) (panesAt (c .before .before .before .before .before .args .b .now) (c .before .before .before .before .before .args .t)))) (sym (c .before .before .row .given .1))
+returns-2 c =
+    let bytes = c .before .before .before .before .before .args .b .now in
+    let t = c .before .before .before .before .before .args .t in
+    let table = tableOf bytes t in
+    let p = c .before .before .before .before .before .args .p in
+    let s = c .before .before .before .before .before .args .s in
+    let m = c .before .before .before .before .before .args .m in
+    let e = c .before .before .row .given .1 in
+    let to = ap (λ (r : TableRow). rowRefusal (rowIs r) (leftAt table p s m) (take p (panesAt bytes t))) (sym (e)) in
+    c .check-tabs .ensures ∙ to
 
 -- src/validate.rt:141:1
 returns-3 : tie.Need-returns-3
-returns-3 c = c .check-split .ensures ∙ ap (λ (r : TableRow). rowRefusal (rowIs r) (leftAt (tableOf (c .before .before .before .before .before .args .b .now) (c .before .before .before .before .before .args .t)) (c .before .before .before .before .before .args .p) (c .before .before .before .before .before .args .s) (c .before .before .before .before .before .args .m)) (take (c .before .before .before .before .before .args .p) (panesAt (c .before .before .before .before .before .args .b .now) (c .before .before .before .before .before .args .t)))) (sym (c .before .before .row2 .given .1))
+returns-3 c =
+    let bytes = c .before .before .before .before .before .args .b .now in
+    let t = c .before .before .before .before .before .args .t in
+    let table = tableOf bytes t in
+    let p = c .before .before .before .before .before .args .p in
+    let s = c .before .before .before .before .before .args .s in
+    let m = c .before .before .before .before .before .args .m in
+    let e = c .before .before .row2 .given .1 in
+    let to = ap (λ (r : TableRow). rowRefusal (rowIs r) (leftAt table p s m) (take p (panesAt bytes t))) (sym (e)) in
+    c .check-split .ensures ∙ to
 
 pub check-row-spec : {M : Type 1} → statement M
 check-row-spec =

@@ -26,7 +26,11 @@ abbrev μ-loop : tie.MeasureT-loop
 
 -- src/validate.rt:171:5
 loop-holds : tie.Need-loop-holds Inv-loop μ-loop
-loop-holds c = (along-start (tableOf (c .before .args .b .now) (c .before .args .t)) (c .before .pre .1), refl)
+loop-holds c =
+    let bytes = c .before .args .b .now in
+    let t = c .before .args .t in
+    let table = tableOf bytes t in
+    (along-start table (c .before .pre .1), refl)
 
 -- src/validate.rt:172:13
 known-row-requires : tie.Need-known-row-requires Inv-loop μ-loop
@@ -34,7 +38,12 @@ known-row-requires c κs = (c .before .before .before .pre .0, c .loop-test .tak
 
 -- src/validate.rt:173:34
 check-row-requires : tie.Need-check-row-requires Inv-loop μ-loop
-check-row-requires c κs = (c .before .before .before .before .pre .0, (along-room (c .before .before .before .before .args .b .now) (c .before .before .before .before .args .t) (c .before .before .loop .i) (c .before .before .loop .p) (c .before .before .loop .s) (c .before .before .loop .m) (rowIs (c .known-row .result)) (c .before .before .loop .inv .0) (c .before .loop-test .taken) (c .known-row .ensures)))
+check-row-requires c κs =
+    let bytes = c .before .before .before .before .args .b .now in
+    let t = c .before .before .before .before .args .t in
+    let row = rowIs (c .known-row .result) in
+    let room = along-room bytes t (c .before .before .loop .i) (c .before .before .loop .p) (c .before .before .loop .s) (c .before .before .loop .m) row (c .before .before .loop .inv .0) (c .before .loop-test .taken) (c .known-row .ensures) in
+    (c .before .before .before .before .pre .0, room)
 
 -- src/validate.rt:173:29
 enum-known-e : tie.Need-enum-known-e Inv-loop μ-loop
@@ -42,7 +51,13 @@ enum-known-e c = search needs
 
 -- src/validate.rt:174:13
 returns : tie.Need-returns Inv-loop μ-loop
-returns c = checking-bad (tableOf (c .before .before .before .before .before .before .before .before .args .b .now) (c .before .before .before .before .before .before .before .before .args .t)) (c .before .before .before .before .before .before .loop .i) (c .before .before .before .before .before .before .loop .p) (c .before .before .before .before .before .before .loop .s) (c .before .before .before .before .before .before .loop .m) (c .before .before .before .before .before .before .loop .inv .1) (let q = length-entries (c .before .before .before .before .before .before .before .before .args .b .now) ((c .before .before .before .before .before .before .before .before .args .t) .rows) ((c .before .before .before .before .before .before .before .before .args .t) .«row_count») rowFrom in omega (arith, c .before .before .before .before .before .loop-test .taken)) (rowIs (c .before .before .before .before .known-row .result)) (c .before .before .before .before .known-row .ensures) (c .before .e .given .0 .0) (ap checkedAs (sym (c .before .e .given .1)) ∙ c .before .before .before .check-row .ensures)
+returns c =
+    let bytes = c .before .before .before .before .before .before .before .before .args .b .now in
+    let t = c .before .before .before .before .before .before .before .before .args .t in
+    let table = tableOf bytes t in
+    let len = length-entries bytes (t .rows) (t .«row_count») rowFrom in
+    let row = rowIs (c .before .before .before .before .known-row .result) in
+    checking-bad table (c .before .before .before .before .before .before .loop .i) (c .before .before .before .before .before .before .loop .p) (c .before .before .before .before .before .before .loop .s) (c .before .before .before .before .before .before .loop .m) (c .before .before .before .before .before .before .loop .inv .1) (let q = len in omega (arith, c .before .before .before .before .before .loop-test .taken)) row (c .before .before .before .before .known-row .ensures) (c .before .e .given .0 .0) (ap checkedAs (sym (c .before .e .given .1)) ∙ c .before .before .before .check-row .ensures)
 
 enum-told : tie.Need-enum-told Inv-loop μ-loop
 enum-told c = search needs
@@ -53,7 +68,12 @@ panes-used-requires c κs = search needs
 
 -- src/validate.rt:176:9
 add-p : tie.Need-add-p Inv-loop μ-loop
-add-p c = omega (arith, (along-room (c .before .before .before .before .before .before .before .before .args .b .now) (c .before .before .before .before .before .before .before .before .args .t) (c .before .before .before .before .before .before .loop .i) (c .before .before .before .before .before .before .loop .p) (c .before .before .before .before .before .before .loop .s) (c .before .before .before .before .before .before .loop .m) (rowIs (c .before .before .before .before .known-row .result)) (c .before .before .before .before .before .before .loop .inv .0) (c .before .before .before .before .before .loop-test .taken) (c .before .before .before .before .known-row .ensures)) .panes, c .panes-used .ensures, c .before .before .before .before .before .before .before .before .pre .0 .panes .few)
+add-p c =
+    let bytes = c .before .before .before .before .before .before .before .before .args .b .now in
+    let t = c .before .before .before .before .before .before .before .before .args .t in
+    let row = rowIs (c .before .before .before .before .known-row .result) in
+    let room = along-room bytes t (c .before .before .before .before .before .before .loop .i) (c .before .before .before .before .before .before .loop .p) (c .before .before .before .before .before .before .loop .s) (c .before .before .before .before .before .before .loop .m) row (c .before .before .before .before .before .before .loop .inv .0) (c .before .before .before .before .before .loop-test .taken) (c .before .before .before .before .known-row .ensures) in
+    omega (arith, room .panes, c .panes-used .ensures, c .before .before .before .before .before .before .before .before .pre .0 .panes .few)
 
 -- src/validate.rt:177:14
 shares-used-requires : tie.Need-shares-used-requires Inv-loop μ-loop
@@ -61,7 +81,12 @@ shares-used-requires c κs = search needs
 
 -- src/validate.rt:177:9
 add-s : tie.Need-add-s Inv-loop μ-loop
-add-s c = omega (arith, (along-room (c .before .before .before .before .before .before .before .before .before .args .b .now) (c .before .before .before .before .before .before .before .before .before .args .t) (c .before .before .before .before .before .before .before .loop .i) (c .before .before .before .before .before .before .before .loop .p) (c .before .before .before .before .before .before .before .loop .s) (c .before .before .before .before .before .before .before .loop .m) (rowIs (c .before .before .before .before .before .known-row .result)) (c .before .before .before .before .before .before .before .loop .inv .0) (c .before .before .before .before .before .before .loop-test .taken) (c .before .before .before .before .before .known-row .ensures)) .shares, c .shares-used .ensures, c .before .before .before .before .before .before .before .before .before .pre .0 .shares .few)
+add-s c =
+    let bytes = c .before .before .before .before .before .before .before .before .before .args .b .now in
+    let t = c .before .before .before .before .before .before .before .before .before .args .t in
+    let row = rowIs (c .before .before .before .before .before .known-row .result) in
+    let room = along-room bytes t (c .before .before .before .before .before .before .before .loop .i) (c .before .before .before .before .before .before .before .loop .p) (c .before .before .before .before .before .before .before .loop .s) (c .before .before .before .before .before .before .before .loop .m) row (c .before .before .before .before .before .before .before .loop .inv .0) (c .before .before .before .before .before .before .loop-test .taken) (c .before .before .before .before .before .known-row .ensures) in
+    omega (arith, room .shares, c .shares-used .ensures, c .before .before .before .before .before .before .before .before .before .pre .0 .shares .few)
 
 -- src/validate.rt:178:14
 minima-used-requires : tie.Need-minima-used-requires Inv-loop μ-loop
@@ -69,7 +94,12 @@ minima-used-requires c κs = search needs
 
 -- src/validate.rt:178:9
 add-m : tie.Need-add-m Inv-loop μ-loop
-add-m c = omega (arith, (along-room (c .before .before .before .before .before .before .before .before .before .before .args .b .now) (c .before .before .before .before .before .before .before .before .before .before .args .t) (c .before .before .before .before .before .before .before .before .loop .i) (c .before .before .before .before .before .before .before .before .loop .p) (c .before .before .before .before .before .before .before .before .loop .s) (c .before .before .before .before .before .before .before .before .loop .m) (rowIs (c .before .before .before .before .before .before .known-row .result)) (c .before .before .before .before .before .before .before .before .loop .inv .0) (c .before .before .before .before .before .before .before .loop-test .taken) (c .before .before .before .before .before .before .known-row .ensures)) .minima, c .minima-used .ensures, c .before .before .before .before .before .before .before .before .before .before .pre .0 .minima .few)
+add-m c =
+    let bytes = c .before .before .before .before .before .before .before .before .before .before .args .b .now in
+    let t = c .before .before .before .before .before .before .before .before .before .before .args .t in
+    let row = rowIs (c .before .before .before .before .before .before .known-row .result) in
+    let room = along-room bytes t (c .before .before .before .before .before .before .before .before .loop .i) (c .before .before .before .before .before .before .before .before .loop .p) (c .before .before .before .before .before .before .before .before .loop .s) (c .before .before .before .before .before .before .before .before .loop .m) row (c .before .before .before .before .before .before .before .before .loop .inv .0) (c .before .before .before .before .before .before .before .loop-test .taken) (c .before .before .before .before .before .before .known-row .ensures) in
+    omega (arith, room .minima, c .minima-used .ensures, c .before .before .before .before .before .before .before .before .before .before .pre .0 .minima .few)
 
 -- src/validate.rt:179:9
 add-i : tie.Need-add-i Inv-loop μ-loop
@@ -81,11 +111,22 @@ loop-less c = omega (arith, c .before .before .before .before .before .before .b
 
 -- src/validate.rt:171:5
 loop-again : tie.Need-loop-again Inv-loop μ-loop
-loop-again c = (along-more (tableOf (c .before .before .before .before .before .before .before .before .before .before .args .b .now) (c .before .before .before .before .before .before .before .before .before .before .args .t)) (c .before .before .before .before .before .before .before .before .loop .i) (c .before .before .before .before .before .before .before .before .loop .p) (c .before .before .before .before .before .before .before .before .loop .s) (c .before .before .before .before .before .before .before .before .loop .m) (rowIs (c .before .before .before .before .before .before .known-row .result)) (c .before .before .panes-used .result) (c .before .shares-used .result) (c .minima-used .result) (c .before .before .before .before .before .before .before .before .loop .inv .0) (let q = length-entries (c .before .before .before .before .before .before .before .before .before .before .args .b .now) ((c .before .before .before .before .before .before .before .before .before .before .args .t) .rows) ((c .before .before .before .before .before .before .before .before .before .before .args .t) .«row_count») rowFrom in omega (arith, c .before .before .before .before .before .before .before .loop-test .taken)) (c .before .before .before .before .before .before .known-row .ensures) (c .before .before .panes-used .ensures) (c .before .shares-used .ensures) (c .minima-used .ensures), checking-more (tableOf (c .before .before .before .before .before .before .before .before .before .before .args .b .now) (c .before .before .before .before .before .before .before .before .before .before .args .t)) (c .before .before .before .before .before .before .before .before .loop .i) (c .before .before .before .before .before .before .before .before .loop .p) (c .before .before .before .before .before .before .before .before .loop .s) (c .before .before .before .before .before .before .before .before .loop .m) (c .before .before .before .before .before .before .before .before .loop .inv .1) (let q = length-entries (c .before .before .before .before .before .before .before .before .before .before .args .b .now) ((c .before .before .before .before .before .before .before .before .before .before .args .t) .rows) ((c .before .before .before .before .before .before .before .before .before .before .args .t) .«row_count») rowFrom in omega (arith, c .before .before .before .before .before .before .before .loop-test .taken)) (rowIs (c .before .before .before .before .before .before .known-row .result)) (c .before .before .before .before .before .before .known-row .ensures) (c .before .before .panes-used .result) (c .before .shares-used .result) (c .minima-used .result) (c .before .before .panes-used .ensures) (c .before .shares-used .ensures) (c .minima-used .ensures) (ap checkedAs (sym (c .before .before .before .enum-told .given .1)) ∙ c .before .before .before .before .before .check-row .ensures))
+loop-again c =
+    let bytes = c .before .before .before .before .before .before .before .before .before .before .args .b .now in
+    let t = c .before .before .before .before .before .before .before .before .before .before .args .t in
+    let table = tableOf bytes t in
+    let row = rowIs (c .before .before .before .before .before .before .known-row .result) in
+    let len = length-entries bytes (t .rows) (t .«row_count») rowFrom in
+    (along-more table (c .before .before .before .before .before .before .before .before .loop .i) (c .before .before .before .before .before .before .before .before .loop .p) (c .before .before .before .before .before .before .before .before .loop .s) (c .before .before .before .before .before .before .before .before .loop .m) row (c .before .before .panes-used .result) (c .before .shares-used .result) (c .minima-used .result) (c .before .before .before .before .before .before .before .before .loop .inv .0) (let q = len in omega (arith, c .before .before .before .before .before .before .before .loop-test .taken)) (c .before .before .before .before .before .before .known-row .ensures) (c .before .before .panes-used .ensures) (c .before .shares-used .ensures) (c .minima-used .ensures), checking-more table (c .before .before .before .before .before .before .before .before .loop .i) (c .before .before .before .before .before .before .before .before .loop .p) (c .before .before .before .before .before .before .before .before .loop .s) (c .before .before .before .before .before .before .before .before .loop .m) (c .before .before .before .before .before .before .before .before .loop .inv .1) (let q = len in omega (arith, c .before .before .before .before .before .before .before .loop-test .taken)) row (c .before .before .before .before .before .before .known-row .ensures) (c .before .before .panes-used .result) (c .before .shares-used .result) (c .minima-used .result) (c .before .before .panes-used .ensures) (c .before .shares-used .ensures) (c .minima-used .ensures) (ap checkedAs (sym (c .before .before .before .enum-told .given .1)) ∙ c .before .before .before .before .before .check-row .ensures))
 
 -- src/validate.rt:162:1
 returns-2 : tie.Need-returns-2 Inv-loop μ-loop
-returns-2 c = checking-end (tableOf (c .before .before .before .args .b .now) (c .before .before .before .args .t)) (c .before .loop .i) (c .before .loop .p) (c .before .loop .s) (c .before .loop .m) (c .before .loop .inv .1) (let q = length-entries (c .before .before .before .args .b .now) ((c .before .before .before .args .t) .rows) ((c .before .before .before .args .t) .«row_count») rowFrom in omega (arith, c .loop-test .left))
+returns-2 c =
+    let bytes = c .before .before .before .args .b .now in
+    let t = c .before .before .before .args .t in
+    let table = tableOf bytes t in
+    let len = length-entries bytes (t .rows) (t .«row_count») rowFrom in
+    checking-end table (c .before .loop .i) (c .before .loop .p) (c .before .loop .s) (c .before .loop .m) (c .before .loop .inv .1) (let q = len in omega (arith, c .loop-test .left))
 
 pub check-rows-spec : {M : Type 1} → statement M
 check-rows-spec =

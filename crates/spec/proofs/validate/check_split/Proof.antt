@@ -17,11 +17,37 @@ use Rattle.spec.proofs.validate.bad_share.Reads as bad-share-reads
 
 -- src/validate.rt:117:9
 returns : tie.Need-returns
-returns c = split-few (c .before .before .args .n) (c .before .before .args .ns) (c .before .before .args .nm) (take (c .before .before .args .ns) (drop (c .before .before .args .s) ((tableOf (c .before .before .args .b .now) (c .before .before .args .t)) .shares))) (take (c .before .before .args .nm) (drop (c .before .before .args .m) ((tableOf (c .before .before .args .b .now) (c .before .before .args .t)) .minima))) (part-length ((tableOf (c .before .before .args .b .now) (c .before .before .args .t)) .shares) (c .before .before .args .s) (c .before .before .args .ns) (let l = length-entries (c .before .before .args .b .now) ((c .before .before .args .t) .shares) ((c .before .before .args .t) .«share_count») real in omega (arith, c .before .before .pre .1))) (part-length ((tableOf (c .before .before .args .b .now) (c .before .before .args .t)) .minima) (c .before .before .args .m) (c .before .before .args .nm) (let l = length-entries (c .before .before .args .b .now) ((c .before .before .args .t) .minima) ((c .before .before .args .t) .«minimum_count») real in omega (arith, c .before .before .pre .2))) (c .if1 .taken)
+returns c =
+    let n = c .before .before .args .n in
+    let ns = c .before .before .args .ns in
+    let nm = c .before .before .args .nm in
+    let s = c .before .before .args .s in
+    let bytes = c .before .before .args .b .now in
+    let t = c .before .before .args .t in
+    let table = tableOf bytes t in
+    let ss = take ns (drop s (table .shares)) in
+    let m = c .before .before .args .m in
+    let ms = take nm (drop m (table .minima)) in
+    let a = part-length (table .shares) s ns (let l = length-entries bytes (t .shares) (t .«share_count») real in omega (arith, c .before .before .pre .1)) in
+    let b = part-length (table .minima) m nm (let l = length-entries bytes (t .minima) (t .«minimum_count») real in omega (arith, c .before .before .pre .2)) in
+    split-few n ns nm ss ms a b (c .if1 .taken)
 
 -- src/validate.rt:120:9
 returns-2 : tie.Need-returns-2
-returns-2 c = split-shares (c .before .before .before .args .n) (c .before .before .before .args .ns) (c .before .before .before .args .nm) (take (c .before .before .before .args .ns) (drop (c .before .before .before .args .s) ((tableOf (c .before .before .before .args .b .now) (c .before .before .before .args .t)) .shares))) (take (c .before .before .before .args .nm) (drop (c .before .before .before .args .m) ((tableOf (c .before .before .before .args .b .now) (c .before .before .before .args .t)) .minima))) (part-length ((tableOf (c .before .before .before .args .b .now) (c .before .before .before .args .t)) .shares) (c .before .before .before .args .s) (c .before .before .before .args .ns) (let l = length-entries (c .before .before .before .args .b .now) ((c .before .before .before .args .t) .shares) ((c .before .before .before .args .t) .«share_count») real in omega (arith, c .before .before .before .pre .1))) (part-length ((tableOf (c .before .before .before .args .b .now) (c .before .before .before .args .t)) .minima) (c .before .before .before .args .m) (c .before .before .before .args .nm) (let l = length-entries (c .before .before .before .args .b .now) ((c .before .before .before .args .t) .minima) ((c .before .before .before .args .t) .«minimum_count») real in omega (arith, c .before .before .before .pre .2))) (c .before .if1 .left) (c .if2 .taken)
+returns-2 c =
+    let n = c .before .before .before .args .n in
+    let ns = c .before .before .before .args .ns in
+    let nm = c .before .before .before .args .nm in
+    let s = c .before .before .before .args .s in
+    let bytes = c .before .before .before .args .b .now in
+    let t = c .before .before .before .args .t in
+    let table = tableOf bytes t in
+    let ss = take ns (drop s (table .shares)) in
+    let m = c .before .before .before .args .m in
+    let ms = take nm (drop m (table .minima)) in
+    let a = part-length (table .shares) s ns (let l = length-entries bytes (t .shares) (t .«share_count») real in omega (arith, c .before .before .before .pre .1)) in
+    let b = part-length (table .minima) m nm (let l = length-entries bytes (t .minima) (t .«minimum_count») real in omega (arith, c .before .before .before .pre .2)) in
+    split-shares n ns nm ss ms a b (c .before .if1 .left) (c .if2 .taken)
 
 -- src/validate.rt:125:31
 bad-share-requires : tie.Need-bad-share-requires
@@ -33,14 +59,41 @@ enum-known-index c = search needs
 
 -- src/validate.rt:126:9
 returns-3 : tie.Need-returns-3
-returns-3 c = split-share (c .before .before .before .before .before .before .before .args .n) (c .before .before .before .before .before .before .before .args .ns) (c .before .before .before .before .before .before .before .args .nm) (take (c .before .before .before .before .before .before .before .args .ns) (drop (c .before .before .before .before .before .before .before .args .s) ((tableOf (c .before .before .before .before .before .before .before .args .b .now) (c .before .before .before .before .before .before .before .args .t)) .shares))) (take (c .before .before .before .before .before .before .before .args .nm) (drop (c .before .before .before .before .before .before .before .args .m) ((tableOf (c .before .before .before .before .before .before .before .args .b .now) (c .before .before .before .before .before .before .before .args .t)) .minima))) (part-length ((tableOf (c .before .before .before .before .before .before .before .args .b .now) (c .before .before .before .before .before .before .before .args .t)) .shares) (c .before .before .before .before .before .before .before .args .s) (c .before .before .before .before .before .before .before .args .ns) (let l = length-entries (c .before .before .before .before .before .before .before .args .b .now) ((c .before .before .before .before .before .before .before .args .t) .shares) ((c .before .before .before .before .before .before .before .args .t) .«share_count») real in omega (arith, c .before .before .before .before .before .before .before .pre .1))) (part-length ((tableOf (c .before .before .before .before .before .before .before .args .b .now) (c .before .before .before .before .before .before .before .args .t)) .minima) (c .before .before .before .before .before .before .before .args .m) (c .before .before .before .before .before .before .before .args .nm) (let l = length-entries (c .before .before .before .before .before .before .before .args .b .now) ((c .before .before .before .before .before .before .before .args .t) .minima) ((c .before .before .before .before .before .before .before .args .t) .«minimum_count») real in omega (arith, c .before .before .before .before .before .before .before .pre .2))) (c .before .before .before .before .before .if1 .left) (c .before .before .before .before .if2 .left) (c .before .index .given .0 .0) (ap placeOf (sym (c .before .index .given .1)) ∙ c .before .before .before .bad-share .ensures)
+returns-3 c =
+    let n = c .before .before .before .before .before .before .before .args .n in
+    let ns = c .before .before .before .before .before .before .before .args .ns in
+    let nm = c .before .before .before .before .before .before .before .args .nm in
+    let s = c .before .before .before .before .before .before .before .args .s in
+    let bytes = c .before .before .before .before .before .before .before .args .b .now in
+    let t = c .before .before .before .before .before .before .before .args .t in
+    let table = tableOf bytes t in
+    let ss = take ns (drop s (table .shares)) in
+    let m = c .before .before .before .before .before .before .before .args .m in
+    let ms = take nm (drop m (table .minima)) in
+    let a = part-length (table .shares) s ns (let l = length-entries bytes (t .shares) (t .«share_count») real in omega (arith, c .before .before .before .before .before .before .before .pre .1)) in
+    let b = part-length (table .minima) m nm (let l = length-entries bytes (t .minima) (t .«minimum_count») real in omega (arith, c .before .before .before .before .before .before .before .pre .2)) in
+    split-share n ns nm ss ms a b (c .before .before .before .before .before .if1 .left) (c .before .before .before .before .if2 .left) (c .before .index .given .0 .0) (ap placeOf (sym (c .before .index .given .1)) ∙ c .before .before .before .bad-share .ensures)
 
 enum-told : tie.Need-enum-told
 enum-told c = search needs
 
 -- src/validate.rt:129:9
 returns-4 : tie.Need-returns-4
-returns-4 c = split-many (c .before .before .before .before .before .before .before .args .n) (c .before .before .before .before .before .before .before .args .ns) (c .before .before .before .before .before .before .before .args .nm) (take (c .before .before .before .before .before .before .before .args .ns) (drop (c .before .before .before .before .before .before .before .args .s) ((tableOf (c .before .before .before .before .before .before .before .args .b .now) (c .before .before .before .before .before .before .before .args .t)) .shares))) (take (c .before .before .before .before .before .before .before .args .nm) (drop (c .before .before .before .before .before .before .before .args .m) ((tableOf (c .before .before .before .before .before .before .before .args .b .now) (c .before .before .before .before .before .before .before .args .t)) .minima))) (part-length ((tableOf (c .before .before .before .before .before .before .before .args .b .now) (c .before .before .before .before .before .before .before .args .t)) .shares) (c .before .before .before .before .before .before .before .args .s) (c .before .before .before .before .before .before .before .args .ns) (let l = length-entries (c .before .before .before .before .before .before .before .args .b .now) ((c .before .before .before .before .before .before .before .args .t) .shares) ((c .before .before .before .before .before .before .before .args .t) .«share_count») real in omega (arith, c .before .before .before .before .before .before .before .pre .1))) (part-length ((tableOf (c .before .before .before .before .before .before .before .args .b .now) (c .before .before .before .before .before .before .before .args .t)) .minima) (c .before .before .before .before .before .before .before .args .m) (c .before .before .before .before .before .before .before .args .nm) (let l = length-entries (c .before .before .before .before .before .before .before .args .b .now) ((c .before .before .before .before .before .before .before .args .t) .minima) ((c .before .before .before .before .before .before .before .args .t) .«minimum_count») real in omega (arith, c .before .before .before .before .before .before .before .pre .2))) (c .before .before .before .before .before .if1 .left) (c .before .before .before .before .if2 .left) (ap placeOf (sym (c .before .enum-told .given .1)) ∙ c .before .before .before .bad-share .ensures) (c .if3 .taken)
+returns-4 c =
+    let n = c .before .before .before .before .before .before .before .args .n in
+    let ns = c .before .before .before .before .before .before .before .args .ns in
+    let nm = c .before .before .before .before .before .before .before .args .nm in
+    let s = c .before .before .before .before .before .before .before .args .s in
+    let bytes = c .before .before .before .before .before .before .before .args .b .now in
+    let t = c .before .before .before .before .before .before .before .args .t in
+    let table = tableOf bytes t in
+    let ss = take ns (drop s (table .shares)) in
+    let m = c .before .before .before .before .before .before .before .args .m in
+    let ms = take nm (drop m (table .minima)) in
+    let a = part-length (table .shares) s ns (let l = length-entries bytes (t .shares) (t .«share_count») real in omega (arith, c .before .before .before .before .before .before .before .pre .1)) in
+    let b = part-length (table .minima) m nm (let l = length-entries bytes (t .minima) (t .«minimum_count») real in omega (arith, c .before .before .before .before .before .before .before .pre .2)) in
+    let f = ap placeOf (sym (c .before .enum-told .given .1)) ∙ c .before .before .before .bad-share .ensures in
+    split-many n ns nm ss ms a b (c .before .before .before .before .before .if1 .left) (c .before .before .before .before .if2 .left) f (c .if3 .taken)
 
 -- src/validate.rt:134:31
 bad-minimum-requires : tie.Need-bad-minimum-requires
@@ -52,14 +105,42 @@ enum-known-index-2 c = search needs
 
 -- src/validate.rt:135:9
 returns-5 : tie.Need-returns-5
-returns-5 c = split-minimum (c .before .before .before .before .before .before .before .before .before .before .before .args .n) (c .before .before .before .before .before .before .before .before .before .before .before .args .ns) (c .before .before .before .before .before .before .before .before .before .before .before .args .nm) (take (c .before .before .before .before .before .before .before .before .before .before .before .args .ns) (drop (c .before .before .before .before .before .before .before .before .before .before .before .args .s) ((tableOf (c .before .before .before .before .before .before .before .before .before .before .before .args .b .now) (c .before .before .before .before .before .before .before .before .before .before .before .args .t)) .shares))) (take (c .before .before .before .before .before .before .before .before .before .before .before .args .nm) (drop (c .before .before .before .before .before .before .before .before .before .before .before .args .m) ((tableOf (c .before .before .before .before .before .before .before .before .before .before .before .args .b .now) (c .before .before .before .before .before .before .before .before .before .before .before .args .t)) .minima))) (part-length ((tableOf (c .before .before .before .before .before .before .before .before .before .before .before .args .b .now) (c .before .before .before .before .before .before .before .before .before .before .before .args .t)) .shares) (c .before .before .before .before .before .before .before .before .before .before .before .args .s) (c .before .before .before .before .before .before .before .before .before .before .before .args .ns) (let l = length-entries (c .before .before .before .before .before .before .before .before .before .before .before .args .b .now) ((c .before .before .before .before .before .before .before .before .before .before .before .args .t) .shares) ((c .before .before .before .before .before .before .before .before .before .before .before .args .t) .«share_count») real in omega (arith, c .before .before .before .before .before .before .before .before .before .before .before .pre .1))) (part-length ((tableOf (c .before .before .before .before .before .before .before .before .before .before .before .args .b .now) (c .before .before .before .before .before .before .before .before .before .before .before .args .t)) .minima) (c .before .before .before .before .before .before .before .before .before .before .before .args .m) (c .before .before .before .before .before .before .before .before .before .before .before .args .nm) (let l = length-entries (c .before .before .before .before .before .before .before .before .before .before .before .args .b .now) ((c .before .before .before .before .before .before .before .before .before .before .before .args .t) .minima) ((c .before .before .before .before .before .before .before .before .before .before .before .args .t) .«minimum_count») real in omega (arith, c .before .before .before .before .before .before .before .before .before .before .before .pre .2))) (c .before .before .before .before .before .before .before .before .before .if1 .left) (c .before .before .before .before .before .before .before .before .if2 .left) (ap placeOf (sym (c .before .before .before .before .before .enum-told .given .1)) ∙ c .before .before .before .before .before .before .before .bad-share .ensures) (c .before .before .before .before .if3 .left) (c .before .index2 .given .0 .0) (ap placeOf (sym (c .before .index2 .given .1)) ∙ c .before .before .before .bad-minimum .ensures)
+returns-5 c =
+    let n = c .before .before .before .before .before .before .before .before .before .before .before .args .n in
+    let ns = c .before .before .before .before .before .before .before .before .before .before .before .args .ns in
+    let nm = c .before .before .before .before .before .before .before .before .before .before .before .args .nm in
+    let s = c .before .before .before .before .before .before .before .before .before .before .before .args .s in
+    let bytes = c .before .before .before .before .before .before .before .before .before .before .before .args .b .now in
+    let t = c .before .before .before .before .before .before .before .before .before .before .before .args .t in
+    let table = tableOf bytes t in
+    let ss = take ns (drop s (table .shares)) in
+    let m = c .before .before .before .before .before .before .before .before .before .before .before .args .m in
+    let ms = take nm (drop m (table .minima)) in
+    let a = part-length (table .shares) s ns (let l = length-entries bytes (t .shares) (t .«share_count») real in omega (arith, c .before .before .before .before .before .before .before .before .before .before .before .pre .1)) in
+    let b = part-length (table .minima) m nm (let l = length-entries bytes (t .minima) (t .«minimum_count») real in omega (arith, c .before .before .before .before .before .before .before .before .before .before .before .pre .2)) in
+    let f = ap placeOf (sym (c .before .before .before .before .before .enum-told .given .1)) ∙ c .before .before .before .before .before .before .before .bad-share .ensures in
+    split-minimum n ns nm ss ms a b (c .before .before .before .before .before .before .before .before .before .if1 .left) (c .before .before .before .before .before .before .before .before .if2 .left) f (c .before .before .before .before .if3 .left) (c .before .index2 .given .0 .0) (ap placeOf (sym (c .before .index2 .given .1)) ∙ c .before .before .before .bad-minimum .ensures)
 
 enum-told-2 : tie.Need-enum-told-2
 enum-told-2 c = search needs
 
 -- src/validate.rt:112:1
 returns-6 : tie.Need-returns-6
-returns-6 c = split-good (c .before .before .before .before .before .before .before .before .before .before .args .n) (c .before .before .before .before .before .before .before .before .before .before .args .ns) (c .before .before .before .before .before .before .before .before .before .before .args .nm) (take (c .before .before .before .before .before .before .before .before .before .before .args .ns) (drop (c .before .before .before .before .before .before .before .before .before .before .args .s) ((tableOf (c .before .before .before .before .before .before .before .before .before .before .args .b .now) (c .before .before .before .before .before .before .before .before .before .before .args .t)) .shares))) (take (c .before .before .before .before .before .before .before .before .before .before .args .nm) (drop (c .before .before .before .before .before .before .before .before .before .before .args .m) ((tableOf (c .before .before .before .before .before .before .before .before .before .before .args .b .now) (c .before .before .before .before .before .before .before .before .before .before .args .t)) .minima))) (part-length ((tableOf (c .before .before .before .before .before .before .before .before .before .before .args .b .now) (c .before .before .before .before .before .before .before .before .before .before .args .t)) .shares) (c .before .before .before .before .before .before .before .before .before .before .args .s) (c .before .before .before .before .before .before .before .before .before .before .args .ns) (let l = length-entries (c .before .before .before .before .before .before .before .before .before .before .args .b .now) ((c .before .before .before .before .before .before .before .before .before .before .args .t) .shares) ((c .before .before .before .before .before .before .before .before .before .before .args .t) .«share_count») real in omega (arith, c .before .before .before .before .before .before .before .before .before .before .pre .1))) (part-length ((tableOf (c .before .before .before .before .before .before .before .before .before .before .args .b .now) (c .before .before .before .before .before .before .before .before .before .before .args .t)) .minima) (c .before .before .before .before .before .before .before .before .before .before .args .m) (c .before .before .before .before .before .before .before .before .before .before .args .nm) (let l = length-entries (c .before .before .before .before .before .before .before .before .before .before .args .b .now) ((c .before .before .before .before .before .before .before .before .before .before .args .t) .minima) ((c .before .before .before .before .before .before .before .before .before .before .args .t) .«minimum_count») real in omega (arith, c .before .before .before .before .before .before .before .before .before .before .pre .2))) (c .before .before .before .before .before .before .before .before .if1 .left) (c .before .before .before .before .before .before .before .if2 .left) (ap placeOf (sym (c .before .before .before .before .enum-told .given .1)) ∙ c .before .before .before .before .before .before .bad-share .ensures) (c .before .before .before .if3 .left) (ap placeOf (sym (c .enum-told2 .given .1)) ∙ c .before .before .bad-minimum .ensures)
+returns-6 c =
+    let n = c .before .before .before .before .before .before .before .before .before .before .args .n in
+    let ns = c .before .before .before .before .before .before .before .before .before .before .args .ns in
+    let nm = c .before .before .before .before .before .before .before .before .before .before .args .nm in
+    let s = c .before .before .before .before .before .before .before .before .before .before .args .s in
+    let bytes = c .before .before .before .before .before .before .before .before .before .before .args .b .now in
+    let t = c .before .before .before .before .before .before .before .before .before .before .args .t in
+    let table = tableOf bytes t in
+    let ss = take ns (drop s (table .shares)) in
+    let m = c .before .before .before .before .before .before .before .before .before .before .args .m in
+    let ms = take nm (drop m (table .minima)) in
+    let a = part-length (table .shares) s ns (let l = length-entries bytes (t .shares) (t .«share_count») real in omega (arith, c .before .before .before .before .before .before .before .before .before .before .pre .1)) in
+    let b = part-length (table .minima) m nm (let l = length-entries bytes (t .minima) (t .«minimum_count») real in omega (arith, c .before .before .before .before .before .before .before .before .before .before .pre .2)) in
+    let f = ap placeOf (sym (c .before .before .before .before .enum-told .given .1)) ∙ c .before .before .before .before .before .before .bad-share .ensures in
+    split-good n ns nm ss ms a b (c .before .before .before .before .before .before .before .before .if1 .left) (c .before .before .before .before .before .before .before .if2 .left) f (c .before .before .before .if3 .left) (ap placeOf (sym (c .enum-told2 .given .1)) ∙ c .before .before .bad-minimum .ensures)
 
 pub check-split-spec : {M : Type 1} → statement M
 check-split-spec =

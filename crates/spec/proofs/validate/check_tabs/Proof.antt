@@ -13,11 +13,25 @@ use Rattle.spec.proofs.validate.first_duplicate.Reads as first-duplicat
 
 -- src/validate.rt:71:9
 returns : tie.Need-returns
-returns c = tabs-empty (panesAt (c .before .before .args .b .now) (c .before .before .args .t)) (c .before .before .args .p) (c .before .before .args .n) (let l = length-entries (c .before .before .args .b .now) ((c .before .before .args .t) .panes) ((c .before .before .args .t) .«pane_count») number in omega (arith, c .before .before .pre .1)) (c .before .before .args .active) (c .if1 .taken)
+returns c =
+    let bytes = c .before .before .args .b .now in
+    let t = c .before .before .args .t in
+    let ps = panesAt bytes t in
+    let p = c .before .before .args .p in
+    let n = c .before .before .args .n in
+    let len = length-entries bytes (t .panes) (t .«pane_count») number in
+    tabs-empty ps p n (let l = len in omega (arith, c .before .before .pre .1)) (c .before .before .args .active) (c .if1 .taken)
 
 -- src/validate.rt:74:9
 returns-2 : tie.Need-returns-2
-returns-2 c = tabs-active (panesAt (c .before .before .before .args .b .now) (c .before .before .before .args .t)) (c .before .before .before .args .p) (c .before .before .before .args .n) (let l = length-entries (c .before .before .before .args .b .now) ((c .before .before .before .args .t) .panes) ((c .before .before .before .args .t) .«pane_count») number in omega (arith, c .before .before .before .pre .1)) (c .before .before .before .args .active) (c .before .if1 .left) (c .if2 .taken)
+returns-2 c =
+    let bytes = c .before .before .before .args .b .now in
+    let t = c .before .before .before .args .t in
+    let ps = panesAt bytes t in
+    let p = c .before .before .before .args .p in
+    let n = c .before .before .before .args .n in
+    let len = length-entries bytes (t .panes) (t .«pane_count») number in
+    tabs-active ps p n (let l = len in omega (arith, c .before .before .before .pre .1)) (c .before .before .before .args .active) (c .before .if1 .left) (c .if2 .taken)
 
 -- src/validate.rt:76:5
 first-duplicate-requires : tie.Need-first-duplicate-requires
@@ -25,7 +39,14 @@ first-duplicate-requires c κs = c .before .before .before .pre
 
 -- src/validate.rt:66:1
 returns-3 : tie.Need-returns-3
-returns-3 c = c .first-duplicate .ensures ∙ tabs-panes (panesAt (c .before .before .before .before .args .b .now) (c .before .before .before .before .args .t)) (c .before .before .before .before .args .p) (c .before .before .before .before .args .n) (let l = length-entries (c .before .before .before .before .args .b .now) ((c .before .before .before .before .args .t) .panes) ((c .before .before .before .before .args .t) .«pane_count») number in omega (arith, c .before .before .before .before .pre .1)) (c .before .before .before .before .args .active) (c .before .before .if1 .left) (c .before .if2 .left)
+returns-3 c =
+    let bytes = c .before .before .before .before .args .b .now in
+    let t = c .before .before .before .before .args .t in
+    let ps = panesAt bytes t in
+    let p = c .before .before .before .before .args .p in
+    let n = c .before .before .before .before .args .n in
+    let len = length-entries bytes (t .panes) (t .«pane_count») number in
+    c .first-duplicate .ensures ∙ tabs-panes ps p n (let l = len in omega (arith, c .before .before .before .before .pre .1)) (c .before .before .before .before .args .active) (c .before .before .if1 .left) (c .before .if2 .left)
 
 pub check-tabs-spec : {M : Type 1} → statement M
 check-tabs-spec = tie.close (tie.spec returns returns-2 first-duplicate-requires returns-3)

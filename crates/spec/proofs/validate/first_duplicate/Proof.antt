@@ -22,7 +22,14 @@ abbrev μ-loop : tie.MeasureT-loop
 
 -- src/validate.rt:55:5
 loop-holds : tie.Need-loop-holds Inv-loop μ-loop
-loop-holds c = (omega arith, fresh-start (panesAt (c .before .args .b .now) (c .before .args .t)) (c .before .args .p) (c .before .args .n) (let l = length-entries (c .before .args .b .now) ((c .before .args .t) .panes) ((c .before .args .t) .«pane_count») number in omega (arith, c .before .pre .1)) .rest)
+loop-holds c =
+    let bytes = c .before .args .b .now in
+    let t = c .before .args .t in
+    let ps = panesAt bytes t in
+    let p = c .before .args .p in
+    let n = c .before .args .n in
+    let len = length-entries bytes (t .panes) (t .«pane_count») number in
+    (omega arith, fresh-start ps p n (let l = len in omega (arith, c .before .pre .1)) .rest)
 
 -- src/validate.rt:56:31
 add-pane-at : tie.Need-add-pane-at Inv-loop μ-loop
@@ -42,7 +49,14 @@ seen-before-requires c κs = (c .before .before .before .before .pre .0, omega (
 
 -- src/validate.rt:58:13
 returns : tie.Need-returns Inv-loop μ-loop
-returns c = fresh-not (panesAt (c .before .before .before .before .before .before .args .b .now) (c .before .before .before .before .before .before .args .t)) (c .before .before .before .before .before .before .args .p) (c .before .before .before .before .before .before .args .n) (let l = length-entries (c .before .before .before .before .before .before .args .b .now) ((c .before .before .before .before .before .before .args .t) .panes) ((c .before .before .before .before .before .before .args .t) .«pane_count») number in omega (arith, c .before .before .before .before .before .before .pre .1)) (c .before .before .before .before .loop .k) (record { within = c .before .before .before .before .loop .inv .0; rest = c .before .before .before .before .loop .inv .1 }) (c .before .before .before .loop-test .taken) (c .before .before .pane-at .result) (c .before .before .pane-at .ensures) (sym (c .if1 .taken) ∙ c .before .seen-before .ensures)
+returns c =
+    let bytes = c .before .before .before .before .before .before .args .b .now in
+    let t = c .before .before .before .before .before .before .args .t in
+    let ps = panesAt bytes t in
+    let p = c .before .before .before .before .before .before .args .p in
+    let n = c .before .before .before .before .before .before .args .n in
+    let len = length-entries bytes (t .panes) (t .«pane_count») number in
+    fresh-not ps p n (let l = len in omega (arith, c .before .before .before .before .before .before .pre .1)) (c .before .before .before .before .loop .k) (record { within = c .before .before .before .before .loop .inv .0; rest = c .before .before .before .before .loop .inv .1 }) (c .before .before .before .loop-test .taken) (c .before .before .pane-at .result) (c .before .before .pane-at .ensures) (sym (c .if1 .taken) ∙ c .before .seen-before .ensures)
 
 -- src/validate.rt:60:9
 add-k : tie.Need-add-k Inv-loop μ-loop
@@ -54,11 +68,25 @@ loop-less c = omega (arith, c .before .before .before .loop-test .taken)
 
 -- src/validate.rt:55:5
 loop-again : tie.Need-loop-again Inv-loop μ-loop
-loop-again c = (omega (arith, c .before .before .before .loop-test .taken), fresh-more (panesAt (c .before .before .before .before .before .before .args .b .now) (c .before .before .before .before .before .before .args .t)) (c .before .before .before .before .before .before .args .p) (c .before .before .before .before .before .before .args .n) (let l = length-entries (c .before .before .before .before .before .before .args .b .now) ((c .before .before .before .before .before .before .args .t) .panes) ((c .before .before .before .before .before .before .args .t) .«pane_count») number in omega (arith, c .before .before .before .before .before .before .pre .1)) (c .before .before .before .before .loop .k) (record { within = c .before .before .before .before .loop .inv .0; rest = c .before .before .before .before .loop .inv .1 }) (c .before .before .before .loop-test .taken) (c .before .before .pane-at .result) (c .before .before .pane-at .ensures) (sym (c .if1 .left) ∙ c .before .seen-before .ensures) .rest)
+loop-again c =
+    let bytes = c .before .before .before .before .before .before .args .b .now in
+    let t = c .before .before .before .before .before .before .args .t in
+    let ps = panesAt bytes t in
+    let p = c .before .before .before .before .before .before .args .p in
+    let n = c .before .before .before .before .before .before .args .n in
+    let len = length-entries bytes (t .panes) (t .«pane_count») number in
+    (omega (arith, c .before .before .before .loop-test .taken), fresh-more ps p n (let l = len in omega (arith, c .before .before .before .before .before .before .pre .1)) (c .before .before .before .before .loop .k) (record { within = c .before .before .before .before .loop .inv .0; rest = c .before .before .before .before .loop .inv .1 }) (c .before .before .before .loop-test .taken) (c .before .before .pane-at .result) (c .before .before .pane-at .ensures) (sym (c .if1 .left) ∙ c .before .seen-before .ensures) .rest)
 
 -- src/validate.rt:50:1
 returns-2 : tie.Need-returns-2 Inv-loop μ-loop
-returns-2 c = fresh-end (panesAt (c .before .before .before .args .b .now) (c .before .before .before .args .t)) (c .before .before .before .args .p) (c .before .before .before .args .n) (let l = length-entries (c .before .before .before .args .b .now) ((c .before .before .before .args .t) .panes) ((c .before .before .before .args .t) .«pane_count») number in omega (arith, c .before .before .before .pre .1)) (c .before .loop .k) (record { within = c .before .loop .inv .0; rest = c .before .loop .inv .1 }) (c .loop-test .left)
+returns-2 c =
+    let bytes = c .before .before .before .args .b .now in
+    let t = c .before .before .before .args .t in
+    let ps = panesAt bytes t in
+    let p = c .before .before .before .args .p in
+    let n = c .before .before .before .args .n in
+    let len = length-entries bytes (t .panes) (t .«pane_count») number in
+    fresh-end ps p n (let l = len in omega (arith, c .before .before .before .pre .1)) (c .before .loop .k) (record { within = c .before .loop .inv .0; rest = c .before .loop .inv .1 }) (c .loop-test .left)
 
 pub first-duplicate-spec : {M : Type 1} → statement M
 first-duplicate-spec =

@@ -22,7 +22,14 @@ abbrev μ-loop : tie.MeasureT-loop
 
 -- src/validate.rt:39:5
 loop-holds : tie.Need-loop-holds Inv-loop μ-loop
-loop-holds c = search-start (eqb (c .before .args .x)) (take (c .before .args .q) (panesAt (c .before .args .b .now) (c .before .args .t))) (c .before .args .q) (length-take-le (c .before .args .q) (panesAt (c .before .args .b .now) (c .before .args .t)) (omega (arith, length-entries (c .before .args .b .now) ((c .before .args .t) .panes) ((c .before .args .t) .«pane_count») number, c .before .pre .1)))
+loop-holds c =
+    let x = c .before .args .x in
+    let q = c .before .args .q in
+    let bytes = c .before .args .b .now in
+    let t = c .before .args .t in
+    let ps = panesAt bytes t in
+    let len = length-entries bytes (t .panes) (t .«pane_count») number in
+    search-start (eqb x) (take q ps) q (length-take-le q ps (omega (arith, len, c .before .pre .1)))
 
 -- src/validate.rt:40:13
 pane-at-requires : tie.Need-pane-at-requires Inv-loop μ-loop
@@ -30,7 +37,13 @@ pane-at-requires c κs = (c .before .before .before .pre .0, omega (arith, c .be
 
 -- src/validate.rt:42:13
 returns : tie.Need-returns Inv-loop μ-loop
-returns c = search-found (eqb (c .before .before .before .before .before .args .x)) (take (c .before .before .before .before .before .args .q) (panesAt (c .before .before .before .before .before .args .b .now) (c .before .before .before .before .before .args .t))) (c .before .before .before .before .before .args .q) (c .before .before .before .loop .j) 0 (c .before .before .before .loop .inv) (c .before .before .loop-test .taken) (sym (eq-eqb _ _ (c .if1 .taken ∙ (c .before .pane-at .ensures ∙ sym (getD-take (c .before .before .before .before .before .args .q) (panesAt (c .before .before .before .before .before .args .b .now) (c .before .before .before .before .before .args .t)) (c .before .before .before .loop .j) 0 (c .before .before .loop-test .taken))))))
+returns c =
+    let x = c .before .before .before .before .before .args .x in
+    let q = c .before .before .before .before .before .args .q in
+    let bytes = c .before .before .before .before .before .args .b .now in
+    let t = c .before .before .before .before .before .args .t in
+    let ps = panesAt bytes t in
+    search-found (eqb x) (take q ps) q (c .before .before .before .loop .j) 0 (c .before .before .before .loop .inv) (c .before .before .loop-test .taken) (sym (eq-eqb _ _ (c .if1 .taken ∙ (c .before .pane-at .ensures ∙ sym (getD-take q ps (c .before .before .before .loop .j) 0 (c .before .before .loop-test .taken))))))
 
 -- src/validate.rt:44:9
 add-j : tie.Need-add-j Inv-loop μ-loop
@@ -42,11 +55,23 @@ loop-less c = omega (arith, c .before .before .loop-test .taken)
 
 -- src/validate.rt:39:5
 loop-again : tie.Need-loop-again Inv-loop μ-loop
-loop-again c = search-more (eqb (c .before .before .before .before .before .args .x)) (take (c .before .before .before .before .before .args .q) (panesAt (c .before .before .before .before .before .args .b .now) (c .before .before .before .before .before .args .t))) (c .before .before .before .before .before .args .q) (c .before .before .before .loop .j) 0 (c .before .before .before .loop .inv) (c .before .before .loop-test .taken) (sym (ne-eqb _ _ (λ e. c .if1 .left (e ∙ sym (c .before .pane-at .ensures ∙ sym (getD-take (c .before .before .before .before .before .args .q) (panesAt (c .before .before .before .before .before .args .b .now) (c .before .before .before .before .before .args .t)) (c .before .before .before .loop .j) 0 (c .before .before .loop-test .taken)))))))
+loop-again c =
+    let x = c .before .before .before .before .before .args .x in
+    let q = c .before .before .before .before .before .args .q in
+    let bytes = c .before .before .before .before .before .args .b .now in
+    let t = c .before .before .before .before .before .args .t in
+    let ps = panesAt bytes t in
+    search-more (eqb x) (take q ps) q (c .before .before .before .loop .j) 0 (c .before .before .before .loop .inv) (c .before .before .loop-test .taken) (sym (ne-eqb _ _ (λ e. c .if1 .left (e ∙ sym (c .before .pane-at .ensures ∙ sym (getD-take q ps (c .before .before .before .loop .j) 0 (c .before .before .loop-test .taken)))))))
 
 -- src/validate.rt:34:1
 returns-2 : tie.Need-returns-2 Inv-loop μ-loop
-returns-2 c = search-end (eqb (c .before .before .before .args .x)) (take (c .before .before .before .args .q) (panesAt (c .before .before .before .args .b .now) (c .before .before .before .args .t))) (c .before .before .before .args .q) (c .before .loop .j) (c .before .loop .inv) (c .loop-test .left)
+returns-2 c =
+    let x = c .before .before .before .args .x in
+    let q = c .before .before .before .args .q in
+    let bytes = c .before .before .before .args .b .now in
+    let t = c .before .before .before .args .t in
+    let ps = panesAt bytes t in
+    search-end (eqb x) (take q ps) q (c .before .loop .j) (c .before .loop .inv) (c .loop-test .left)
 
 pub seen-before-spec : {M : Type 1} → statement M
 seen-before-spec =
