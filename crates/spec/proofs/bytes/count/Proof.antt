@@ -1,33 +1,25 @@
+-- `spec::bytes::count`: four bytes are the first pair and 65,536 times the second. Assumes nothing.
 use native.Mathlib.Omega.{arith}
-use Rattle.spec.specs.Bytes.{number-four}
 use borrow.Author.Needs.{needs}
+use Rattle.spec.specs.Bytes.{number-four}
 use Rattle.spec.proofs.bytes.count.Statement.{statement}
 use Rattle.spec.proofs.bytes.count.Tie as tie
-use Rattle.spec.proofs.bytes.count.Reads as reads
-use Rattle.spec.proofs.bytes.count.Lts as lts
-use Rattle.spec.proofs.bytes.pair.Reads as pair-reads
 
--- src/bytes.rt:33:5
 pair-requires : tie.Need-pair-requires
 pair-requires c κs = search needs
 
--- src/bytes.rt:33:35
 add-pair : tie.Need-add-pair
 add-pair c = search needs
 
--- src/bytes.rt:33:27
 pair-requires-2 : tie.Need-pair-requires-2
 pair-requires-2 c κs = search needs
 
--- src/bytes.rt:33:19
 mul-result : tie.Need-mul-result
 mul-result c = search needs
 
--- src/bytes.rt:33:5
 add-result : tie.Need-add-result
 add-result c = search needs
 
--- src/bytes.rt:29:1
 returns : tie.Need-returns
 returns c = let a = c .before .before .before .args in (number-four (a .b .now) (a .at) _ _ (c .before .before .before .pre) (c .before .pair .ensures .0) (c .pair2 .ensures .0), omega (arith, c .before .pair .ensures .1, c .pair2 .ensures .1))
 

@@ -1,48 +1,35 @@
+-- `spec::draft::build`: the refusals in their order. Assumes nothing.
 use mathlib.Core.Path.{ap, sym, subst, _∙_}
+use borrow.Author.Needs.{needs}
 use Rattle.rules.specs.Spec.{Built}
 use Rattle.spec.specs.Rows.{TableIs}
 use Rattle.spec.specs.Checks.{checkedAs}
 use Rattle.spec.specs.Draft.{Drafted}
 use Rattle.spec.specs.DraftLaws.{draft-bad, draft-full, draft-wide, draft-refused, draft-built, passed}
 use Rattle.spec.specs.declared.table.Sections.{Sections}
-use borrow.Author.Needs.{needs}
 use Rattle.spec.proofs.draft.build.Statement.{statement}
 use Rattle.spec.proofs.draft.build.Tie as tie
-use Rattle.spec.proofs.draft.build.Reads as reads
-use Rattle.spec.proofs.draft.build.Lts as lts
-use Rattle.spec.proofs.draft.built_tree.Reads as built-tree-reads
-use Rattle.spec.proofs.draft.refused.Reads as refused-reads
-use Rattle.spec.proofs.entry.too_wide.Reads as too-wide-reads
-use Rattle.spec.proofs.preorder.read_table.Reads as read-table-reads
-use Rattle.spec.proofs.validate.check_rows.Reads as check-rows-reads
 
--- src/draft.rt:85:29
 read-table-requires : tie.Need-read-table-requires
 read-table-requires c κs = search needs
 
--- src/draft.rt:85:24
 enum-known-t : tie.Need-enum-known-t
 enum-known-t c = search needs
 
--- src/draft.rt:86:24
 enum-told : tie.Need-enum-told
 enum-told c = search needs
 
--- src/draft.rt:86:9
 refused-requires : tie.Need-refused-requires
 refused-requires c κs = search needs
 
--- src/draft.rt:86:9
 returns : tie.Need-returns
 returns c =
     let bytes = c .before .before .before .before .before .args .b .now in
     subst (λ (b : Built). Drafted (c .refused .result .answer) (c .refused .result .tree) b) (draft-bad bytes (subst (λ (r : Sections). TableIs bytes r) (c .before .enum-told .given .1) (c .before .before .before .read-table .ensures))) (c .refused .ensures)
 
--- src/draft.rt:89:9
 refused-requires-2 : tie.Need-refused-requires-2
 refused-requires-2 c κs = search needs
 
--- src/draft.rt:89:9
 returns-2 : tie.Need-returns-2
 returns-2 c =
     let bytes = c .before .before .before .before .before .before .before .before .args .b .now in
@@ -50,18 +37,15 @@ returns-2 c =
     let w = subst (λ (r : Sections). TableIs bytes r) (c .before .before .before .before .t .given .1) (c .before .before .before .before .before .before .read-table .ensures) in
     subst (λ (b : Built). Drafted (c .refused2 .result .answer) (c .refused2 .result .tree) b) (draft-full bytes t w (c .before .if1 .taken)) (c .refused2 .ensures)
 
--- src/draft.rt:91:8
 too-wide-requires : tie.Need-too-wide-requires
 too-wide-requires c κs =
     let bytes = c .before .before .before .before .before .before .before .args .b .now in
     let w = subst (λ (r : Sections). TableIs bytes r) (c .before .before .before .t .given .1) (c .before .before .before .before .before .read-table .ensures) in
     w .placed
 
--- src/draft.rt:92:9
 refused-requires-3 : tie.Need-refused-requires-3
 refused-requires-3 c κs = search needs
 
--- src/draft.rt:92:9
 returns-3 : tie.Need-returns-3
 returns-3 c =
     let bytes = c .before .before .before .before .before .before .before .before .before .before .args .b .now in
@@ -69,22 +53,18 @@ returns-3 c =
     let w = subst (λ (r : Sections). TableIs bytes r) (c .before .before .before .before .before .before .t .given .1) (c .before .before .before .before .before .before .before .before .read-table .ensures) in
     subst (λ (b : Built). Drafted (c .refused3 .result .answer) (c .refused3 .result .tree) b) (draft-wide bytes t w (c .before .before .before .if1 .left) (sym (c .before .if2 .taken) ∙ c .before .before .too-wide .ensures)) (c .refused3 .ensures)
 
--- src/draft.rt:94:30
 check-rows-requires : tie.Need-check-rows-requires
 check-rows-requires c κs =
     let bytes = c .before .before .before .before .before .before .before .before .before .args .b .now in
     let w = subst (λ (r : Sections). TableIs bytes r) (c .before .before .before .before .before .t .given .1) (c .before .before .before .before .before .before .before .read-table .ensures) in
     (w .placed, w .used)
 
--- src/draft.rt:94:25
 enum-known-e : tie.Need-enum-known-e
 enum-known-e c = search needs
 
--- src/draft.rt:95:9
 refused-requires-4 : tie.Need-refused-requires-4
 refused-requires-4 c κs = search needs
 
--- src/draft.rt:95:9
 returns-4 : tie.Need-returns-4
 returns-4 c =
     let bytes = c .before .before .before .before .before .before .before .before .before .before .before .before .before .before .args .b .now in
@@ -96,7 +76,6 @@ returns-4 c =
 enum-told-2 : tie.Need-enum-told-2
 enum-told-2 c = search needs
 
--- src/draft.rt:97:9
 built-tree-requires : tie.Need-built-tree-requires
 built-tree-requires c κs =
     let bytes = c .before .before .before .before .before .before .before .before .before .before .before .before .args .b .now in
@@ -106,7 +85,6 @@ built-tree-requires c κs =
     let good = ap checkedAs (sym (c .enum-told2 .given .1)) ∙ c .before .before .check-rows .ensures in
     passed bytes t w (c .before .before .before .before .before .if1 .left) g good
 
--- src/draft.rt:82:1
 returns-5 : tie.Need-returns-5
 returns-5 c =
     let bytes = c .before .before .before .before .before .before .before .before .before .before .before .before .before .args .b .now in

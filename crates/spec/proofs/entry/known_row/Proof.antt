@@ -1,35 +1,27 @@
+-- `spec::entry::known_row`: a row that was read is the i-th. Assumes nothing.
 use mathlib.Core.Path.{ap, sym, _∙_}
+use borrow.Author.Needs.{needs}
 use Rattle.spec.specs.Row.{readIs, rowOr}
 use Rattle.spec.specs.Entries.{row-entry}
 use Rattle.spec.specs.declared.row.RowRead.{RowRead}
-use borrow.Author.Needs.{needs}
 use Rattle.spec.proofs.entry.known_row.Statement.{statement}
 use Rattle.spec.proofs.entry.known_row.Tie as tie
-use Rattle.spec.proofs.entry.known_row.Reads as reads
-use Rattle.spec.proofs.entry.known_row.Lts as lts
-use Rattle.spec.proofs.row.row_at.Reads as row-at-reads
 
--- src/entry.rt:24:29
 mul-row-at : tie.Need-mul-row-at
 mul-row-at c = search needs
 
--- src/entry.rt:24:21
 add-row-at : tie.Need-add-row-at
 add-row-at c = search needs
 
--- src/entry.rt:24:11
 row-at-requires : tie.Need-row-at-requires
 row-at-requires c κs = search needs
 
--- src/entry.rt:25:22
 enum-known-row : tie.Need-enum-known-row
 enum-known-row c = search needs
 
--- src/entry.rt:26:25
 enum-told : tie.Need-enum-told
 enum-told c = search needs
 
--- src/entry.rt:19:1
 returns : tie.Need-returns
 returns c =
     let bytes = c .before .before .before .before .before .args .b .now in
@@ -37,7 +29,6 @@ returns c =
     let i = c .before .before .before .before .before .args .i in
     ap (λ (r : RowRead). rowOr (readIs r)) (sym (c .before .row .given .1)) ∙ row-entry bytes (t .rows) (t .«row_count») i (c .before .before .before .before .before .pre .1) (readIs (c .before .before .before .row-at .result)) (c .before .before .before .row-at .ensures .is)
 
--- src/entry.rt:19:1
 returns-2 : tie.Need-returns-2
 returns-2 c =
     let bytes = c .before .before .before .before .args .b .now in

@@ -1,24 +1,18 @@
-use Rattle.spec.specs.Entries.{number-entry}
+-- `spec::entry::pane_at`: eight bytes are the i-th pane. Assumes nothing.
 use borrow.Author.Needs.{needs}
+use Rattle.spec.specs.Entries.{number-entry}
 use Rattle.spec.proofs.entry.pane_at.Statement.{statement}
 use Rattle.spec.proofs.entry.pane_at.Tie as tie
-use Rattle.spec.proofs.entry.pane_at.Reads as reads
-use Rattle.spec.proofs.entry.pane_at.Lts as lts
-use Rattle.number.proofs.word.Reads as word-reads
 
--- src/entry.rt:35:29
 mul-word : tie.Need-mul-word
 mul-word c = search needs
 
--- src/entry.rt:35:21
 add-word : tie.Need-add-word
 add-word c = search needs
 
--- src/entry.rt:35:5
 word-requires : tie.Need-word-requires
 word-requires c κs = search needs
 
--- src/entry.rt:30:1
 returns : tie.Need-returns
 returns c =
     let bytes = c .before .before .args .b .now in

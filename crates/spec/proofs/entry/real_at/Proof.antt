@@ -1,29 +1,21 @@
-use Rattle.spec.specs.Entries.{real-entry}
+-- `spec::entry::real_at`: eight bytes, decoded, are the i-th real. Assumes nothing.
 use borrow.Author.Needs.{needs}
+use Rattle.spec.specs.Entries.{real-entry}
 use Rattle.spec.proofs.entry.real_at.Statement.{statement}
 use Rattle.spec.proofs.entry.real_at.Tie as tie
-use Rattle.spec.proofs.entry.real_at.Reads as reads
-use Rattle.spec.proofs.entry.real_at.Lts as lts
-use Rattle.number.proofs.decode.Reads as decode-reads
-use Rattle.number.proofs.word.Reads as word-reads
 
--- src/entry.rt:43:44
 mul-word : tie.Need-mul-word
 mul-word c = search needs
 
--- src/entry.rt:43:36
 add-word : tie.Need-add-word
 add-word c = search needs
 
--- src/entry.rt:43:20
 word-requires : tie.Need-word-requires
 word-requires c κs = search needs
 
--- src/entry.rt:43:5
 decode-requires : tie.Need-decode-requires
 decode-requires c κs = search needs
 
--- src/entry.rt:39:1
 returns : tie.Need-returns
 returns c =
     let bytes = c .before .before .before .args .b .now in

@@ -1,3 +1,4 @@
+-- `spec::entry::too_wide`: a search along the rows. Assumes nothing.
 use mathlib.Core.Path.{ap, sym, _∙_}
 use Prim.Native.Nat.{_-_}
 use native.Mathlib.Omega.{arith}
@@ -8,10 +9,6 @@ use Rattle.spec.specs.Rows.{rowFrom, rowsAt}
 use Rattle.spec.specs.Entries.{length-entries, Searching, search-start, search-found, search-more, search-end}
 use Rattle.spec.proofs.entry.too_wide.Statement.{statement}
 use Rattle.spec.proofs.entry.too_wide.Tie as tie
-use Rattle.spec.proofs.entry.too_wide.Reads as reads
-use Rattle.spec.proofs.entry.too_wide.Lts as lts
-use Rattle.spec.proofs.entry.known_row.Reads as known-row-reads
-use Rattle.spec.proofs.row.is_wide.Reads as is-wide-reads
 
 abbrev Inv-loop : tie.InvT-loop
 Inv-loop b t n i₀ i = Searching wideRow (rowsAt b t) n i
@@ -19,7 +16,6 @@ Inv-loop b t n i₀ i = Searching wideRow (rowsAt b t) n i
 abbrev μ-loop : tie.MeasureT-loop
 μ-loop b t n i₀ i = n - i
 
--- src/entry.rt:53:5
 loop-holds : tie.Need-loop-holds Inv-loop μ-loop
 loop-holds c =
     let bytes = c .before .args .b .now in
@@ -28,15 +24,12 @@ loop-holds c =
     let n = t .«row_count» in
     search-start wideRow r n (length-entries bytes (t .rows) n rowFrom)
 
--- src/entry.rt:54:20
 known-row-requires : tie.Need-known-row-requires Inv-loop μ-loop
 known-row-requires c κs = (c .before .before .before .pre, c .loop-test .taken)
 
--- src/entry.rt:54:12
 is-wide-requires : tie.Need-is-wide-requires Inv-loop μ-loop
 is-wide-requires c κs = search needs
 
--- src/entry.rt:55:13
 returns : tie.Need-returns Inv-loop μ-loop
 returns c =
     let bytes = c .before .before .before .before .before .before .args .b .now in
@@ -45,15 +38,12 @@ returns c =
     let n = t .«row_count» in
     search-found wideRow r n (c .before .before .before .before .loop .i) paneRow (c .before .before .before .before .loop .inv) (c .before .before .before .loop-test .taken) (sym (c .if1 .taken) ∙ c .before .is-wide .ensures ∙ ap wideRow (c .before .before .known-row .ensures))
 
--- src/entry.rt:57:9
 add-i : tie.Need-add-i Inv-loop μ-loop
 add-i c = omega (arith, c .before .before .before .loop-test .taken, c .before .before .before .before .before .before .pre .rows .few)
 
--- src/entry.rt:53:5
 loop-less : tie.Need-loop-less Inv-loop μ-loop
 loop-less c = omega (arith, c .before .before .before .loop-test .taken)
 
--- src/entry.rt:53:5
 loop-again : tie.Need-loop-again Inv-loop μ-loop
 loop-again c =
     let bytes = c .before .before .before .before .before .before .args .b .now in
@@ -62,7 +52,6 @@ loop-again c =
     let n = t .«row_count» in
     search-more wideRow r n (c .before .before .before .before .loop .i) paneRow (c .before .before .before .before .loop .inv) (c .before .before .before .loop-test .taken) (sym (c .if1 .left) ∙ c .before .is-wide .ensures ∙ ap wideRow (c .before .before .known-row .ensures))
 
--- src/entry.rt:47:1
 returns-2 : tie.Need-returns-2 Inv-loop μ-loop
 returns-2 c =
     let bytes = c .before .before .before .args .b .now in

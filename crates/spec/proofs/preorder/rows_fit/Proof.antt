@@ -1,3 +1,4 @@
+-- `spec::preorder::rows_fit`: the loop is the walk along the rows; the sums stay below 2^48. Assumes nothing.
 use mathlib.Core.Path.{subst, _∙_}
 use Prim.Native.Nat.{_+_, _*_, _-_}
 use native.Mathlib.Nat.{pos-of-ne-zero}
@@ -8,14 +9,6 @@ use Rattle.spec.specs.RowsLoop.{Going, going-start, going-closed, going-
 use Rattle.spec.specs.declared.row.RowRead.{RowRead}
 use Rattle.spec.proofs.preorder.rows_fit.Statement.{statement}
 use Rattle.spec.proofs.preorder.rows_fit.Tie as tie
-use Rattle.spec.proofs.preorder.rows_fit.Reads as reads
-use Rattle.spec.proofs.preorder.rows_fit.Lts as lts
-use Rattle.spec.proofs.preorder.all_used.Reads as all-used-reads
-use Rattle.spec.proofs.row.children_used.Reads as children-used-reads
-use Rattle.spec.proofs.row.minima_used.Reads as minima-used-reads
-use Rattle.spec.proofs.row.panes_used.Reads as panes-used-reads
-use Rattle.spec.proofs.row.row_at.Reads as row-at-reads
-use Rattle.spec.proofs.row.shares_used.Reads as shares-used-reads
 
 abbrev Inv-loop : tie.InvT-loop
 Inv-loop b t start n i₀ due₀ panes₀ shares₀ minima₀ i due panes shares minima = Going b t i due panes shares minima
@@ -23,56 +16,45 @@ Inv-loop b t start n i₀ due₀ panes₀ shares₀ minima₀ i due panes shares
 abbrev μ-loop : tie.MeasureT-loop
 μ-loop b t start n i₀ due₀ panes₀ shares₀ minima₀ i due panes shares minima = n - i
 
--- src/preorder.rt:48:5
 loop-holds : tie.Need-loop-holds Inv-loop μ-loop
 loop-holds c =
     let bytes = c .before .args .b .now in
     let t = c .before .args .t in
     going-start bytes t
 
--- src/preorder.rt:50:13
 returns : tie.Need-returns Inv-loop μ-loop
 returns c =
     let bytes = c .before .before .before .before .args .b .now in
     let t = c .before .before .before .before .args .t in
     going-closed bytes t (c .before .before .loop .i) (c .before .before .loop .due) (c .before .before .loop .panes) (c .before .before .loop .shares) (c .before .before .loop .minima) (c .before .before .loop .inv) (c .before .loop-test .taken) (c .if1 .taken)
 
--- src/preorder.rt:52:51
 mul-row-at : tie.Need-mul-row-at Inv-loop μ-loop
 mul-row-at c = omega (arith, c .before .before .before .before .pre .rows .few, c .before .before .before .before .pre .rows .inside, c .before .loop-test .taken)
 
--- src/preorder.rt:52:43
 add-row-at : tie.Need-add-row-at Inv-loop μ-loop
 add-row-at c = omega (arith, c .before .before .before .before .pre .rows .few, c .before .before .before .before .pre .rows .inside, c .before .loop-test .taken)
 
--- src/preorder.rt:52:33
 row-at-requires : tie.Need-row-at-requires Inv-loop μ-loop
 row-at-requires c κs = omega (arith, c .before .before .before .before .pre .rows .few, c .before .before .before .before .pre .rows .inside, c .before .loop-test .taken)
 
--- src/preorder.rt:52:26
 enum-known-row : tie.Need-enum-known-row Inv-loop μ-loop
 enum-known-row c = search needs
 
--- src/preorder.rt:53:13
 enum-told : tie.Need-enum-told Inv-loop μ-loop
 enum-told c = search needs
 
--- src/preorder.rt:53:13
 returns-2 : tie.Need-returns-2 Inv-loop μ-loop
 returns-2 c =
     let bytes = c .before .before .before .before .before .before .before .args .b .now in
     let t = c .before .before .before .before .before .before .before .args .t in
     going-bad bytes t (c .before .before .before .before .before .loop .i) (c .before .before .before .before .before .loop .due) (c .before .before .before .before .before .loop .panes) (c .before .before .before .before .before .loop .shares) (c .before .before .before .before .before .loop .minima) (c .before .before .before .before .before .loop .inv) (c .before .before .before .before .loop-test .taken) (subst (λ (r : RowRead). ReadAt bytes (t .rows + 8 * c .before .before .before .before .before .loop .i) r) (c .enum-told .given .1) (c .before .before .row-at .ensures))
 
--- src/preorder.rt:55:15
 sub-due : tie.Need-sub-due Inv-loop μ-loop
 sub-due c = omega (arith, pos-of-ne-zero (c .before .before .before .before .if1 .left))
 
--- src/preorder.rt:55:25
 children-used-requires : tie.Need-children-used-requires Inv-loop μ-loop
 children-used-requires c κs = search needs
 
--- src/preorder.rt:55:15
 add-due : tie.Need-add-due Inv-loop μ-loop
 add-due c =
     let bytes = c .before .before .before .before .before .before .before .before .before .args .b .now in
@@ -80,11 +62,9 @@ add-due c =
     let rd = subst (λ (r : RowRead). ReadAt bytes (t .rows + 8 * c .before .before .before .before .before .before .before .loop .i) r) (c .before .before .row .given .1) (c .before .before .before .before .row-at .ensures) in
     omega (arith, c .before .before .before .before .before .before .before .before .before .pre .rows .few, c .before .before .before .before .before .before .before .before .before .pre .rows .inside, c .before .before .before .before .before .before .loop-test .taken, c .children-used .ensures, rd .small .children, c .before .before .before .before .before .before .before .loop .inv .due-few)
 
--- src/preorder.rt:56:18
 panes-used-requires : tie.Need-panes-used-requires Inv-loop μ-loop
 panes-used-requires c κs = search needs
 
--- src/preorder.rt:56:9
 add-panes : tie.Need-add-panes Inv-loop μ-loop
 add-panes c =
     let bytes = c .before .before .before .before .before .before .before .before .before .before .args .b .now in
@@ -92,11 +72,9 @@ add-panes c =
     let rd = subst (λ (r : RowRead). ReadAt bytes (t .rows + 8 * c .before .before .before .before .before .before .before .before .loop .i) r) (c .before .before .before .row .given .1) (c .before .before .before .before .before .row-at .ensures) in
     omega (arith, c .before .before .before .before .before .before .before .before .before .before .pre .rows .few, c .before .before .before .before .before .before .before .before .before .before .pre .rows .inside, c .before .before .before .before .before .before .before .loop-test .taken, c .panes-used .ensures, rd .small .panes, c .before .before .before .before .before .before .before .before .loop .inv .panes-few)
 
--- src/preorder.rt:57:19
 shares-used-requires : tie.Need-shares-used-requires Inv-loop μ-loop
 shares-used-requires c κs = search needs
 
--- src/preorder.rt:57:9
 add-shares : tie.Need-add-shares Inv-loop μ-loop
 add-shares c =
     let bytes = c .before .before .before .before .before .before .before .before .before .before .before .args .b .now in
@@ -104,11 +82,9 @@ add-shares c =
     let rd = subst (λ (r : RowRead). ReadAt bytes (t .rows + 8 * c .before .before .before .before .before .before .before .before .before .loop .i) r) (c .before .before .before .before .row .given .1) (c .before .before .before .before .before .before .row-at .ensures) in
     omega (arith, c .before .before .before .before .before .before .before .before .before .before .before .pre .rows .few, c .before .before .before .before .before .before .before .before .before .before .before .pre .rows .inside, c .before .before .before .before .before .before .before .before .loop-test .taken, c .shares-used .ensures, rd .small .shares, c .before .before .before .before .before .before .before .before .before .loop .inv .shares-few)
 
--- src/preorder.rt:58:19
 minima-used-requires : tie.Need-minima-used-requires Inv-loop μ-loop
 minima-used-requires c κs = search needs
 
--- src/preorder.rt:58:9
 add-minima : tie.Need-add-minima Inv-loop μ-loop
 add-minima c =
     let bytes = c .before .before .before .before .before .before .before .before .before .before .before .before .args .b .now in
@@ -116,15 +92,12 @@ add-minima c =
     let rd = subst (λ (r : RowRead). ReadAt bytes (t .rows + 8 * c .before .before .before .before .before .before .before .before .before .before .loop .i) r) (c .before .before .before .before .before .row .given .1) (c .before .before .before .before .before .before .before .row-at .ensures) in
     omega (arith, c .before .before .before .before .before .before .before .before .before .before .before .before .pre .rows .few, c .before .before .before .before .before .before .before .before .before .before .before .before .pre .rows .inside, c .before .before .before .before .before .before .before .before .before .loop-test .taken, c .minima-used .ensures, rd .small .minima, c .before .before .before .before .before .before .before .before .before .before .loop .inv .minima-few)
 
--- src/preorder.rt:59:9
 add-i : tie.Need-add-i Inv-loop μ-loop
 add-i c = omega (arith, c .before .before .before .before .before .before .before .before .before .before .before .before .pre .rows .few, c .before .before .before .before .before .before .before .before .before .before .before .before .pre .rows .inside, c .before .before .before .before .before .before .before .before .before .loop-test .taken)
 
--- src/preorder.rt:48:5
 loop-less : tie.Need-loop-less Inv-loop μ-loop
 loop-less c = omega (arith, c .before .before .before .before .before .before .before .before .before .loop-test .taken)
 
--- src/preorder.rt:48:5
 loop-again : tie.Need-loop-again Inv-loop μ-loop
 loop-again c =
     let bytes = c .before .before .before .before .before .before .before .before .before .before .before .before .args .b .now in
@@ -133,11 +106,9 @@ loop-again c =
     let rd = subst (λ (r : RowRead). ReadAt bytes (t .rows + 8 * c .before .before .before .before .before .before .before .before .before .before .loop .i) r) (c .before .before .before .before .before .row .given .1) (c .before .before .before .before .before .before .before .row-at .ensures) in
     going-more bytes t (c .before .before .before .before .before .before .before .before .before .before .loop .i) (c .before .before .before .before .before .before .before .before .before .before .loop .due) (c .before .before .before .before .before .before .before .before .before .before .loop .panes) (c .before .before .before .before .before .before .before .before .before .before .loop .shares) (c .before .before .before .before .before .before .before .before .before .before .loop .minima) (c .before .before .before .before .before .before .before .before .before .before .loop .inv) (c .before .before .before .before .before .before .before .before .before .loop-test .taken) row (c .before .before .before .children-used .result) (c .before .before .panes-used .result) (c .before .shares-used .result) (c .minima-used .result) rd (c .before .before .before .before .before .before .before .before .if1 .left) (c .before .before .before .children-used .ensures) (c .before .before .panes-used .ensures) (c .before .shares-used .ensures) (c .minima-used .ensures)
 
--- src/preorder.rt:61:5
 all-used-requires : tie.Need-all-used-requires Inv-loop μ-loop
 all-used-requires c κs = search needs
 
--- src/preorder.rt:37:1
 returns-3 : tie.Need-returns-3 Inv-loop μ-loop
 returns-3 c =
     let bytes = c .before .before .before .before .args .b .now in

@@ -1,24 +1,24 @@
-use mathlib.Core.Path.{ap, _∙_}
-use Prim.Native.Nat.{_+_, _*_, _-_, _≤_}
+-- `spec::push::push_spec`: the measure is the rows left; the loop has built so many of the children, and says what the rules still do. Assumes nothing.
+use mathlib.Core.Path.{ap}
+use Prim.Native.Nat.{_+_, _-_, _≤_, ℕ, _<_}
 use native.Mathlib.Omega.{arith}
 use borrow.Author.Needs.{needs}
 use lib.ListN.{length-set}
+use borrow.Fn.Kinds.{In}
+use borrow.Fn.PlainCycle.{Measures, is, falls, and}
 use Rattle.rules.specs.Table.{paneRow, childrenUsed}
 use Rattle.spec.specs.Row.{rowIs}
 use Rattle.spec.specs.Rows.{rowFrom, rowsAt}
 use Rattle.spec.specs.Entries.{length-entries}
 use Rattle.spec.specs.PushLaws.{pushed-none, row-narrow}
 use Rattle.spec.specs.PushLoop.{Filling, fill-start, fill-none, fill-more, fill-counted, fill-end}
-use Prim.Native.Nat.{ℕ, _<_}
-use borrow.Fn.Kinds.{In}
-use borrow.Fn.PlainCycle.{Measures, is, falls, and}
+use Rattle.spec.proofs.push.+push_spec.{statement}
+use Rattle.spec.proofs.push.+push_spec.Tie.{close}
 use Rattle.spec.proofs.push.push_spec.Reads as push-spec
 use Rattle.spec.proofs.push.push_spec.Kinds as push-spec-kinds
 use Rattle.spec.proofs.push.+push_spec.Lts-push_spec as push-spec-lts
 use Rattle.spec.proofs.entry.known_row.Reads as known-row-reads
 use Rattle.spec.proofs.row.children_used.Reads as children-used-reads
-use Rattle.spec.proofs.push.+push_spec.{statement}
-use Rattle.spec.proofs.push.+push_spec.Tie.{close}
 
 abbrev μ-push-spec : Measures 2 push-spec-kinds.ps ℕ
 μ-push-spec κs a = a .1 .0 .«row_count» - a .1 .1 .1 .0
@@ -36,7 +36,6 @@ push-spec-Inv-loop b t kids₀ at n next₀ left₀ kids next left = (left ≤ n
 abbrev push-spec-μ-loop : push-spec-lts.MeasureT-loop
 push-spec-μ-loop b t kids₀ at n next₀ left₀ kids next left = left
 
--- src/push.rt:16:9
 push-spec-returns : (t : ℕ) → push-spec-lts.Need-returns (
   known-row-reads.Asked,
   known-row-reads.Learnt,
@@ -55,7 +54,6 @@ push-spec-returns t c =
     let pre = c .before .before .before .pre .1 in
     let q = len in pushed-none rows k0 at (pre .size) (omega (arith, pre .within)) (omega (arith, c .if1 .taken))
 
--- src/push.rt:18:9
 push-spec-known-row-requires : (t : ℕ) → push-spec-lts.Need-known-row-requires (
   known-row-reads.Asked,
   known-row-reads.Learnt,
@@ -68,7 +66,6 @@ push-spec-known-row-requires t c κs =
     let pre = c .before .before .before .pre .1 in
     (pre .placed, c .if1 .left)
 
--- src/push.rt:19:9
 push-spec-children-used-requires : (t : ℕ) → push-spec-lts.Need-children-used-requires (
   known-row-reads.Asked,
   known-row-reads.Learnt,
@@ -79,7 +76,6 @@ push-spec-children-used-requires : (t : ℕ) → push-spec-lts.Need-children-use
 ) (push-spec-at t) push-spec.Post push-spec-Inv-loop push-spec-μ-loop
 push-spec-children-used-requires t c κs = search needs
 
--- src/push.rt:20:20
 push-spec-add-next : (t : ℕ) → push-spec-lts.Need-add-next (
   known-row-reads.Asked,
   known-row-reads.Learnt,
@@ -92,7 +88,6 @@ push-spec-add-next t c =
     let pre = c .before .before .before .before .before .pre .1 in
     omega (arith, c .before .before .if1 .left, pre .few)
 
--- src/push.rt:22:5
 push-spec-loop-holds : (t : ℕ) → push-spec-lts.Need-loop-holds (
   known-row-reads.Asked,
   known-row-reads.Learnt,
@@ -112,7 +107,6 @@ push-spec-loop-holds t c =
     let pre = c .before .before .before .before .before .pre .1 in
     (omega arith, fill-none (fill-start rows at n k0 (let q = len in omega (arith, c .before .before .if1 .left)) (pre .size)))
 
--- src/push.rt:23:17
 push-spec-sub-j : (t : ℕ) → push-spec-lts.Need-sub-j (
   known-row-reads.Asked,
   known-row-reads.Learnt,
@@ -123,7 +117,6 @@ push-spec-sub-j : (t : ℕ) → push-spec-lts.Need-sub-j (
 ) (push-spec-at t) push-spec.Post push-spec-Inv-loop push-spec-μ-loop
 push-spec-sub-j t c = omega (arith, c .before .loop .inv .0)
 
--- src/push.rt:24:14
 push-spec-mul-kids : (t : ℕ) → push-spec-lts.Need-mul-kids (
   known-row-reads.Asked,
   known-row-reads.Learnt,
@@ -142,7 +135,6 @@ push-spec-mul-kids t c =
     let pre = c .before .before .before .before .before .before .before .pre .1 in
     let few : n ≤ 16 = (let q = row-narrow rows at paneRow (let q = len in omega (arith, c .before .before .before .before .if1 .left)) (pre .narrow) in omega (arith, c .before .before .children-used .ensures, ap childrenUsed (c .before .before .before .known-row .ensures))) in omega (arith, c .before .before .before .before .if1 .left, pre .few, c .loop-test .taken, c .before .loop .inv .0)
 
--- src/push.rt:24:14
 push-spec-add-kids : (t : ℕ) → push-spec-lts.Need-add-kids (
   known-row-reads.Asked,
   known-row-reads.Learnt,
@@ -161,7 +153,6 @@ push-spec-add-kids t c =
     let pre = c .before .before .before .before .before .before .before .pre .1 in
     let few : n ≤ 16 = (let q = row-narrow rows at paneRow (let q = len in omega (arith, c .before .before .before .before .if1 .left)) (pre .narrow) in omega (arith, c .before .before .children-used .ensures, ap childrenUsed (c .before .before .before .known-row .ensures))) in omega (arith, c .before .before .before .before .if1 .left, pre .few, c .loop-test .taken, c .before .loop .inv .0)
 
--- src/push.rt:24:9
 push-spec-mul-kids-2 : (t : ℕ) → push-spec-lts.Need-mul-kids-2 (
   known-row-reads.Asked,
   known-row-reads.Learnt,
@@ -180,7 +171,6 @@ push-spec-mul-kids-2 t c =
     let pre = c .before .before .before .before .before .before .before .pre .1 in
     let few : n ≤ 16 = (let q = row-narrow rows at paneRow (let q = len in omega (arith, c .before .before .before .before .if1 .left)) (pre .narrow) in omega (arith, c .before .before .children-used .ensures, ap childrenUsed (c .before .before .before .known-row .ensures))) in omega (arith, c .before .before .before .before .if1 .left, pre .few, c .loop-test .taken, c .before .loop .inv .0)
 
--- src/push.rt:24:9
 push-spec-element-write-kids : (t : ℕ) → push-spec-lts.Need-element-write-kids (
   known-row-reads.Asked,
   known-row-reads.Learnt,
@@ -199,7 +189,6 @@ push-spec-element-write-kids t c =
     let pre = c .before .before .before .before .before .before .before .pre .1 in
     let few : n ≤ 16 = (let q = row-narrow rows at paneRow (let q = len in omega (arith, c .before .before .before .before .if1 .left)) (pre .narrow) in omega (arith, c .before .before .children-used .ensures, ap childrenUsed (c .before .before .before .known-row .ensures))) in omega (arith, c .before .before .before .before .if1 .left, pre .few, c .loop-test .taken, c .before .loop .inv .0, c .before .loop .inv .1 .size)
 
--- src/push.rt:25:9
 push-spec-push-spec-requires : (t : ℕ) → push-spec-lts.Need-push-spec-requires (
   known-row-reads.Asked,
   known-row-reads.Learnt,
@@ -216,9 +205,8 @@ push-spec-push-spec-requires t c κs =
     let at = c .before .before .before .before .before .before .before .before .args .at in
     let n = c .before .before .before .children-used .result in
     let j = n - c .before .before .loop .left in
-    let q = len in (omega (arith, c .before .before .before .before .before .before .before .before .pre .0, c .before .before .loop .inv .1 .low, c .before .before .loop .inv .1 .high, c .before .before .before .before .before .if1 .left), record { placed = pre .placed; few = pre .few; narrow = pre .narrow; within = omega (arith, c .before .before .loop .inv .1 .high); size = length-set (c .before .before .loop .kids) (16 * at + j) (c .before .before .loop .next) ∙ c .before .before .loop .inv .1 .size })
+    let q = len in (omega (arith, c .before .before .before .before .before .before .before .before .pre .0, c .before .before .loop .inv .1 .low, c .before .before .loop .inv .1 .high, c .before .before .before .before .before .if1 .left), record { placed = pre .placed; few = pre .few; narrow = pre .narrow; within = omega (arith, c .before .before .loop .inv .1 .high); size = simp length-set (c .before .before .loop .inv .1 .size) })
 
--- src/push.rt:26:9
 push-spec-sub-left : (t : ℕ) → push-spec-lts.Need-sub-left (
   known-row-reads.Asked,
   known-row-reads.Learnt,
@@ -229,7 +217,6 @@ push-spec-sub-left : (t : ℕ) → push-spec-lts.Need-sub-left (
 ) (push-spec-at t) push-spec.Post push-spec-Inv-loop push-spec-μ-loop
 push-spec-sub-left t c = omega (arith, c .before .before .loop-test .taken)
 
--- src/push.rt:22:5
 push-spec-loop-less : (t : ℕ) → push-spec-lts.Need-loop-less (
   known-row-reads.Asked,
   known-row-reads.Learnt,
@@ -240,7 +227,6 @@ push-spec-loop-less : (t : ℕ) → push-spec-lts.Need-loop-less (
 ) (push-spec-at t) push-spec.Post push-spec-Inv-loop push-spec-μ-loop
 push-spec-loop-less t c = omega (arith, c .before .before .loop-test .taken)
 
--- src/push.rt:22:5
 push-spec-loop-again : (t : ℕ) → push-spec-lts.Need-loop-again (
   known-row-reads.Asked,
   known-row-reads.Learnt,
@@ -261,7 +247,6 @@ push-spec-loop-again t c =
     let pre = c .before .before .before .before .before .before .before .before .before .pre .1 in
     (omega (arith, c .before .before .before .loop .inv .0), fill-counted (c .before .before .before .loop .left) (c .before .before .loop-test .taken) (c .before .before .before .loop .inv .0) (fill-more rows at n k0 (c .before .before .before .loop .kids) _ j (c .before .before .before .loop .next) (c .push-spec .result) (c .before .before .before .loop .inv .1) (omega (arith, c .before .before .loop-test .taken, c .before .before .before .loop .inv .0)) (let q = row-narrow rows at paneRow (let q = len in omega (arith, c .before .before .before .before .before .before .if1 .left)) (pre .narrow) in omega (arith, c .before .before .before .before .children-used .ensures, ap childrenUsed (c .before .before .before .before .before .known-row .ensures))) (omega (arith, c .before .before .before .before .before .before .if1 .left, pre .few)) (pre .narrow) (c .push-spec .ensures)))
 
--- src/push.rt:11:1
 push-spec-returns-2 : (t : ℕ) → push-spec-lts.Need-returns-2 (
   known-row-reads.Asked,
   known-row-reads.Learnt,

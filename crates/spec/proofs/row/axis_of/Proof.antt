@@ -1,20 +1,16 @@
+-- `spec::row::axis_of`: each mode by its own clause of the rules. Assumes nothing.
 use mathlib.Core.Path.{ap, sym}
 use Rattle.rules.specs.Table.{axisOf}
 use Rattle.spec.specs.RowLaws.{axis-rest}
 use Rattle.spec.proofs.row.axis_of.Statement.{statement}
 use Rattle.spec.proofs.row.axis_of.Tie as tie
-use Rattle.spec.proofs.row.axis_of.Reads as reads
-use Rattle.spec.proofs.row.axis_of.Lts as lts
 
--- src/row.rt:57:1
 returns : tie.Need-returns
 returns c = ap axisOf (sym (c .match .keys1))
 
--- src/row.rt:57:1
 returns-2 : tie.Need-returns-2
 returns-2 c = ap axisOf (sym (c .match .keys2))
 
--- src/row.rt:57:1
 returns-3 : tie.Need-returns-3
 returns-3 c = axis-rest _ (c .match .rest .0 .1) (c .match .rest .1)
 

@@ -1,32 +1,25 @@
+-- `spec::row::bar_of`: each mode by its own clause of the rules. Assumes nothing.
 use mathlib.Core.Path.{ap, sym}
 use Rattle.rules.specs.Table.{barOf}
 use Rattle.spec.specs.RowLaws.{bar-rest}
 use Rattle.spec.proofs.row.bar_of.Statement.{statement}
 use Rattle.spec.proofs.row.bar_of.Tie as tie
-use Rattle.spec.proofs.row.bar_of.Reads as reads
-use Rattle.spec.proofs.row.bar_of.Lts as lts
 
--- src/row.rt:44:1
 returns : tie.Need-returns
 returns c = ap barOf (sym (c .match .keys1))
 
--- src/row.rt:44:1
 returns-2 : tie.Need-returns-2
 returns-2 c = ap barOf (sym (c .match .keys2))
 
--- src/row.rt:44:1
 returns-3 : tie.Need-returns-3
 returns-3 c = ap barOf (sym (c .match .keys3))
 
--- src/row.rt:44:1
 returns-4 : tie.Need-returns-4
 returns-4 c = ap barOf (sym (c .match .keys4))
 
--- src/row.rt:44:1
 returns-5 : tie.Need-returns-5
 returns-5 c = ap barOf (sym (c .match .keys5))
 
--- src/row.rt:44:1
 returns-6 : tie.Need-returns-6
 returns-6 c = let r = c .match .rest in bar-rest _ (r .0 .0 .0 .0 .1) (r .0 .0 .0 .1) (r .0 .0 .1) (r .0 .1) (r .1)
 

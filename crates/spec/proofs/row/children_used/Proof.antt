@@ -1,34 +1,27 @@
+-- `spec::row::children_used`: a split alone has children. Assumes nothing.
 use mathlib.Core.Path.{ap, sym}
+use borrow.Author.Needs.{needs}
 use Rattle.rules.specs.Table.{childrenUsed}
 use Rattle.spec.specs.Row.{rowIs}
 use Rattle.spec.specs.declared.row.TableRow.{TableRow}
-use borrow.Author.Needs.{needs}
 use Rattle.spec.proofs.row.children_used.Statement.{statement}
 use Rattle.spec.proofs.row.children_used.Tie as tie
-use Rattle.spec.proofs.row.children_used.Reads as reads
-use Rattle.spec.proofs.row.children_used.Lts as lts
 
--- src/row.rt:205:27
 enum-told : tie.Need-enum-told
 enum-told c = search needs
 
--- src/row.rt:210:14
 enum-told-2 : tie.Need-enum-told-2
 enum-told-2 c = search needs
 
--- src/row.rt:213:13
 enum-known-r : tie.Need-enum-known-r
 enum-known-r c = search needs
 
--- src/row.rt:201:1
 returns : tie.Need-returns
 returns c = search needs
 
--- src/row.rt:201:1
 returns-2 : tie.Need-returns-2
 returns-2 c = search needs
 
--- src/row.rt:201:1
 returns-3 : tie.Need-returns-3
 returns-3 c = ap (λ (r : TableRow). childrenUsed (rowIs r)) (sym (c .before .r .given .1))
 

@@ -1,34 +1,27 @@
+-- `spec::row::shares_used`: a split alone takes shares. Assumes nothing.
 use mathlib.Core.Path.{ap, sym}
+use borrow.Author.Needs.{needs}
 use Rattle.rules.specs.Table.{sharesUsed}
 use Rattle.spec.specs.Row.{rowIs}
 use Rattle.spec.specs.declared.row.TableRow.{TableRow}
-use borrow.Author.Needs.{needs}
 use Rattle.spec.proofs.row.shares_used.Statement.{statement}
 use Rattle.spec.proofs.row.shares_used.Tie as tie
-use Rattle.spec.proofs.row.shares_used.Reads as reads
-use Rattle.spec.proofs.row.shares_used.Lts as lts
 
--- src/row.rt:166:27
 enum-told : tie.Need-enum-told
 enum-told c = search needs
 
--- src/row.rt:171:14
 enum-told-2 : tie.Need-enum-told-2
 enum-told-2 c = search needs
 
--- src/row.rt:175:13
 enum-known-r : tie.Need-enum-known-r
 enum-known-r c = search needs
 
--- src/row.rt:162:1
 returns : tie.Need-returns
 returns c = search needs
 
--- src/row.rt:162:1
 returns-2 : tie.Need-returns-2
 returns-2 c = search needs
 
--- src/row.rt:162:1
 returns-3 : tie.Need-returns-3
 returns-3 c = ap (λ (r : TableRow). sharesUsed (rowIs r)) (sym (c .before .r .given .1))
 

@@ -1,30 +1,23 @@
+-- `spec::row::split_row`: a mode that is an axis. Assumes nothing.
 use mathlib.Core.Path.{ap, sym, _∙_}
+use borrow.Author.Needs.{needs}
 use Rattle.spec.specs.Row.{axisIs}
 use Rattle.spec.specs.RowLaws.{split-good, split-bad}
-use borrow.Author.Needs.{needs}
 use Rattle.spec.proofs.row.split_row.Statement.{statement}
 use Rattle.spec.proofs.row.split_row.Tie as tie
-use Rattle.spec.proofs.row.split_row.Reads as reads
-use Rattle.spec.proofs.row.split_row.Lts as lts
-use Rattle.spec.proofs.row.axis_of.Reads as axis-of-reads
 
--- src/row.rt:107:11
 axis-of-requires : tie.Need-axis-of-requires
 axis-of-requires c κs = search needs
 
--- src/row.rt:108:24
 enum-known-axis : tie.Need-enum-known-axis
 enum-known-axis c = search needs
 
--- src/row.rt:114:26
 enum-told : tie.Need-enum-told
 enum-told c = search needs
 
--- src/row.rt:104:1
 returns : tie.Need-returns
 returns c = let h = c .before .before .before in let a = h .before .args in split-good (c .before .axis .given .0 .0) (a .mode) (a .count) (a .extra) (a .minima) (ap axisIs (sym (c .before .axis .given .1)) ∙ h .axis-of .ensures)
 
--- src/row.rt:104:1
 returns-2 : tie.Need-returns-2
 returns-2 c = let h = c .before .before in let a = h .before .args in split-bad (a .mode) (a .count) (a .extra) (a .minima) (ap axisIs (sym (c .enum-told .given .1)) ∙ h .axis-of .ensures)
 

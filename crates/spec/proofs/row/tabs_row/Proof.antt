@@ -1,34 +1,26 @@
+-- `spec::row::tabs_row`: no minima, and a mode that is a placement. Assumes nothing.
 use mathlib.Core.Path.{ap, sym, _∙_}
+use borrow.Author.Needs.{needs}
 use Rattle.spec.specs.Row.{barIs}
 use Rattle.spec.specs.RowLaws.{tabs-minima, tabs-good, tabs-bad}
-use borrow.Author.Needs.{needs}
 use Rattle.spec.proofs.row.tabs_row.Statement.{statement}
 use Rattle.spec.proofs.row.tabs_row.Tie as tie
-use Rattle.spec.proofs.row.tabs_row.Reads as reads
-use Rattle.spec.proofs.row.tabs_row.Lts as lts
-use Rattle.spec.proofs.row.bar_of.Reads as bar-of-reads
 
--- src/row.rt:91:9
 returns : tie.Need-returns
 returns c = let a = c .before .args in tabs-minima (a .mode) (a .count) (a .extra) (a .minima) (c .if1 .taken)
 
--- src/row.rt:93:11
 bar-of-requires : tie.Need-bar-of-requires
 bar-of-requires c κs = search needs
 
--- src/row.rt:94:22
 enum-known-placement : tie.Need-enum-known-placement
 enum-known-placement c = search needs
 
--- src/row.rt:99:25
 enum-told : tie.Need-enum-told
 enum-told c = search needs
 
--- src/row.rt:87:1
 returns-2 : tie.Need-returns-2
 returns-2 c = let h = c .before .before .before in let a = h .before .before .args in tabs-good (c .before .placement .given .0 .0) (a .mode) (a .count) (a .extra) (a .minima) (h .before .if1 .left) (ap barIs (sym (c .before .placement .given .1)) ∙ h .bar-of .ensures)
 
--- src/row.rt:87:1
 returns-3 : tie.Need-returns-3
 returns-3 c = let h = c .before .before in let a = h .before .before .args in tabs-bad (a .mode) (a .count) (a .extra) (a .minima) (h .before .if1 .left) (ap barIs (sym (c .enum-told .given .1)) ∙ h .bar-of .ensures)
 

@@ -1,19 +1,15 @@
-use mathlib.Core.Path.{refl, sym, _∙_}
-use Prim.Native.Nat.{_-_}
+-- `spec::slot::children_of`: fills a fresh list. Assumes nothing.
+use mathlib.Core.Path.{refl, sym}
+use Prim.Native.Nat.{_-_, _+_, _*_}
 use native.Mathlib.Omega.{arith}
-use borrow.Author.Needs.{needs}
-use lib.ListN.{take, drop}
+use lib.ListN.{getD}
 use Rattle.lists.specs.Exact.{padTo}
 use Rattle.lists.specs.Build.{Building, building-start, building-more, building-done}
-use Prim.Native.Nat.{_+_, _*_}
-use lib.ListN.{getD}
 use Rattle.rules.specs.Tree.{tile}
 use Rattle.spec.specs.Push.{childrenAt}
 use Rattle.spec.specs.SlotLaws.{children-length, child-at}
 use Rattle.spec.proofs.slot.children_of.Statement.{statement}
 use Rattle.spec.proofs.slot.children_of.Tie as tie
-use Rattle.spec.proofs.slot.children_of.Reads as reads
-use Rattle.spec.proofs.slot.children_of.Lts as lts
 
 abbrev Inv-loop : tie.InvT-loop
 Inv-loop kids i n at₀ j₀ at j = Building (tile 0) (childrenAt kids i n) n j at
@@ -21,7 +17,6 @@ Inv-loop kids i n at₀ j₀ at j = Building (tile 0) (childrenAt kids i n) n j 
 abbrev μ-loop : tie.MeasureT-loop
 μ-loop kids i n at₀ j₀ at j = n - j
 
--- src/slot.rt:65:5
 loop-holds : tie.Need-loop-holds Inv-loop μ-loop
 unfolding padTo
 loop-holds c =
@@ -31,39 +26,30 @@ loop-holds c =
     let xs = childrenAt k i n in
     building-start (tile 0) xs _ n (sym (children-length k i n (c .pre .0) (c .pre .1) (c .pre .2))) (c .pre .2) refl
 
--- src/slot.rt:66:22
 mul-x : tie.Need-mul-x Inv-loop μ-loop
 mul-x c = omega (arith, c .before .before .pre .0, c .before .before .pre .1, c .before .before .pre .2, c .loop-test .taken)
 
--- src/slot.rt:66:22
 add-x : tie.Need-add-x Inv-loop μ-loop
 add-x c = omega (arith, c .before .before .pre .0, c .before .before .pre .1, c .before .before .pre .2, c .loop-test .taken)
 
--- src/slot.rt:66:17
 mul-x-2 : tie.Need-mul-x-2 Inv-loop μ-loop
 mul-x-2 c = omega (arith, c .before .before .pre .0, c .before .before .pre .1, c .before .before .pre .2, c .loop-test .taken)
 
--- src/slot.rt:66:17
 element-copy-out-x : tie.Need-element-copy-out-x Inv-loop μ-loop
 element-copy-out-x c = omega (arith, c .before .before .pre .0, c .before .before .pre .1, c .before .before .pre .2, c .loop-test .taken)
 
--- src/slot.rt:67:9
 mul-at : tie.Need-mul-at Inv-loop μ-loop
 mul-at c = omega (arith, c .before .before .before .pre .0, c .before .before .before .pre .1, c .before .before .before .pre .2, c .before .loop-test .taken)
 
--- src/slot.rt:67:9
 array-set-from-at : tie.Need-array-set-from-at Inv-loop μ-loop
 array-set-from-at c = omega (arith, c .before .before .before .pre .0, c .before .before .before .pre .1, c .before .before .before .pre .2, c .before .loop-test .taken)
 
--- src/slot.rt:68:9
 add-j : tie.Need-add-j Inv-loop μ-loop
 add-j c = omega (arith, c .before .before .before .pre .0, c .before .before .before .pre .1, c .before .before .before .pre .2, c .before .loop-test .taken)
 
--- src/slot.rt:65:5
 loop-less : tie.Need-loop-less Inv-loop μ-loop
 loop-less c = omega (arith, c .before .loop-test .taken)
 
--- src/slot.rt:65:5
 loop-again : tie.Need-loop-again Inv-loop μ-loop
 loop-again c =
     let k = c .before .before .before .args .kids .now in
@@ -72,7 +58,6 @@ loop-again c =
     let xs = childrenAt k i n in
     building-more (tile 0) xs (c .before .before .loop .at) n (c .before .before .loop .j) (tile (getD k (16 * i + c .before .before .loop .j) 0)) (c .before .before .loop .inv) (c .before .loop-test .taken) (child-at k i n (c .before .before .loop .j) (getD k (16 * i + c .before .before .loop .j) 0) (c .before .before .before .pre .0) (c .before .before .before .pre .1) (c .before .before .before .pre .2) (c .before .loop-test .taken) refl)
 
--- src/slot.rt:59:1
 returns : tie.Need-returns Inv-loop μ-loop
 returns c =
     let k = c .before .before .args .kids .now in

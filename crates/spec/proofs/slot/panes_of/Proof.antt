@@ -1,21 +1,17 @@
+-- `spec::slot::panes_of`: fills a fresh list. Assumes nothing.
 use mathlib.Core.Path.{refl, sym, _∙_}
-use Prim.Native.Nat.{_-_}
+use Prim.Native.Nat.{_-_, ℕ}
 use native.Mathlib.Omega.{arith}
-use borrow.Author.Needs.{needs}
 use lib.ListN.{take, drop}
+use mathlib.Core.Bool.{true}
 use Rattle.lists.specs.Exact.{padTo}
 use Rattle.lists.specs.Build.{Building, building-start, building-more, building-done}
-use Prim.Native.Nat.{ℕ}
-use mathlib.Core.Bool.{true}
 use Rattle.rules.specs.Table.{number}
 use Rattle.spec.specs.Rows.{panesAt}
 use Rattle.spec.specs.Entries.{length-entries}
 use Rattle.spec.specs.CheckLaws.{part-length, part-at}
 use Rattle.spec.proofs.slot.panes_of.Statement.{statement}
 use Rattle.spec.proofs.slot.panes_of.Tie as tie
-use Rattle.spec.proofs.slot.panes_of.Reads as reads
-use Rattle.spec.proofs.slot.panes_of.Lts as lts
-use Rattle.spec.proofs.entry.pane_at.Reads as pane-at-reads
 
 abbrev Inv-loop : tie.InvT-loop
 Inv-loop b t p n at₀ j₀ at j = Building 0 (take n (drop p (panesAt b t))) n j at
@@ -23,7 +19,6 @@ Inv-loop b t p n at₀ j₀ at j = Building 0 (take n (drop p (panesAt b t))) n 
 abbrev μ-loop : tie.MeasureT-loop
 μ-loop b t p n at₀ j₀ at j = n - j
 
--- src/slot.rt:36:5
 loop-holds : tie.Need-loop-holds Inv-loop μ-loop
 unfolding padTo
 loop-holds c =
@@ -35,31 +30,24 @@ loop-holds c =
     let part = take n (drop p xs) in
     building-start 0 part _ n (sym (part-length xs p n (let q = length-entries bytes (t .panes) (t .«pane_count») number in omega (arith, c .before .pre .1)))) (c .before .pre .2) refl
 
--- src/slot.rt:37:31
 add-pane-at : tie.Need-add-pane-at Inv-loop μ-loop
 add-pane-at c = omega (arith, c .before .before .before .pre .1, c .before .before .before .pre .0 .panes .few, c .loop-test .taken)
 
--- src/slot.rt:37:13
 pane-at-requires : tie.Need-pane-at-requires Inv-loop μ-loop
 pane-at-requires c κs = (c .before .before .before .pre .0, omega (arith, c .before .before .before .pre .1, c .loop-test .taken))
 
--- src/slot.rt:38:9
 mul-at : tie.Need-mul-at Inv-loop μ-loop
 mul-at c = omega (arith, c .before .before .before .before .pre .2, c .before .loop-test .taken)
 
--- src/slot.rt:38:9
 array-write-at : tie.Need-array-write-at Inv-loop μ-loop
 array-write-at c = omega (arith, c .before .before .before .before .pre .2, c .before .loop-test .taken)
 
--- src/slot.rt:39:9
 add-j : tie.Need-add-j Inv-loop μ-loop
 add-j c = omega (arith, c .before .before .before .before .pre .2, c .before .loop-test .taken)
 
--- src/slot.rt:36:5
 loop-less : tie.Need-loop-less Inv-loop μ-loop
 loop-less c = omega (arith, c .before .loop-test .taken)
 
--- src/slot.rt:36:5
 loop-again : tie.Need-loop-again Inv-loop μ-loop
 loop-again c =
     let n = c .before .before .before .before .args .n in
@@ -70,7 +58,6 @@ loop-again c =
     let part = take n (drop p xs) in
     building-more 0 part (c .before .before .loop .at) n (c .before .before .loop .j) (c .pane-at .result) (c .before .before .loop .inv) (c .before .loop-test .taken) (c .pane-at .ensures ∙ sym (part-at (λ (x : ℕ). true) xs p n (let q = length-entries bytes (t .panes) (t .«pane_count») number in omega (arith, c .before .before .before .before .pre .1)) 0 (c .before .before .loop .j) (c .before .loop-test .taken)))
 
--- src/slot.rt:30:1
 returns : tie.Need-returns Inv-loop μ-loop
 returns c =
     let n = c .before .before .before .args .n in

@@ -1,12 +1,12 @@
+-- `spec::slot::reals_of`: fills a fresh list. Assumes nothing.
 use mathlib.Core.Path.{refl, sym, _∙_}
 use Prim.Native.Nat.{_-_}
 use native.Mathlib.Omega.{arith}
-use borrow.Author.Needs.{needs}
 use lib.ListN.{take, drop}
-use Rattle.lists.specs.Exact.{padTo}
-use Rattle.lists.specs.Build.{Building, building-start, building-more, building-done}
 use mathlib.Core.Bool.{true}
 use lib.Ieee.{Float, ofBits}
+use Rattle.lists.specs.Exact.{padTo}
+use Rattle.lists.specs.Build.{Building, building-start, building-more, building-done}
 use Rattle.rules.specs.Numbers.{zero-f}
 use Rattle.rules.specs.Table.{real}
 use Rattle.spec.specs.Rows.{realsAt}
@@ -14,9 +14,6 @@ use Rattle.spec.specs.Entries.{length-entries}
 use Rattle.spec.specs.CheckLaws.{part-length, part-at}
 use Rattle.spec.proofs.slot.reals_of.Statement.{statement}
 use Rattle.spec.proofs.slot.reals_of.Tie as tie
-use Rattle.spec.proofs.slot.reals_of.Reads as reads
-use Rattle.spec.proofs.slot.reals_of.Lts as lts
-use Rattle.spec.proofs.entry.real_at.Reads as real-at-reads
 
 abbrev Inv-loop : tie.InvT-loop
 Inv-loop b start count from n at₀ j₀ at j = Building zero-f (take n (drop from (realsAt b start count))) n j at
@@ -24,7 +21,6 @@ Inv-loop b start count from n at₀ j₀ at j = Building zero-f (take n (drop fr
 abbrev μ-loop : tie.MeasureT-loop
 μ-loop b start count from n at₀ j₀ at j = n - j
 
--- src/slot.rt:51:5
 loop-holds : tie.Need-loop-holds Inv-loop μ-loop
 unfolding padTo ofBits
 loop-holds c =
@@ -37,31 +33,24 @@ loop-holds c =
     let part = take n (drop p xs) in
     building-start zero-f part _ n (sym (part-length xs p n (let q = length-entries bytes s count real in omega (arith, c .before .pre .1)))) (c .before .pre .2) refl
 
--- src/slot.rt:52:42
 add-real-at : tie.Need-add-real-at Inv-loop μ-loop
 add-real-at c = omega (arith, c .before .before .before .pre .1, c .before .before .before .pre .0 .few, c .loop-test .taken)
 
--- src/slot.rt:52:13
 real-at-requires : tie.Need-real-at-requires Inv-loop μ-loop
 real-at-requires c κs = (c .before .before .before .pre .0, omega (arith, c .before .before .before .pre .1, c .loop-test .taken))
 
--- src/slot.rt:53:9
 mul-at : tie.Need-mul-at Inv-loop μ-loop
 mul-at c = omega (arith, c .before .before .before .before .pre .2, c .before .loop-test .taken)
 
--- src/slot.rt:53:9
 array-write-at : tie.Need-array-write-at Inv-loop μ-loop
 array-write-at c = omega (arith, c .before .before .before .before .pre .2, c .before .loop-test .taken)
 
--- src/slot.rt:54:9
 add-j : tie.Need-add-j Inv-loop μ-loop
 add-j c = omega (arith, c .before .before .before .before .pre .2, c .before .loop-test .taken)
 
--- src/slot.rt:51:5
 loop-less : tie.Need-loop-less Inv-loop μ-loop
 loop-less c = omega (arith, c .before .loop-test .taken)
 
--- src/slot.rt:51:5
 loop-again : tie.Need-loop-again Inv-loop μ-loop
 loop-again c =
     let n = c .before .before .before .before .args .n in
@@ -73,7 +62,6 @@ loop-again c =
     let part = take n (drop p xs) in
     building-more zero-f part (c .before .before .loop .at) n (c .before .before .loop .j) (c .real-at .result) (c .before .before .loop .inv) (c .before .loop-test .taken) (c .real-at .ensures ∙ sym (part-at (λ (x : Float). true) xs p n (let q = length-entries bytes s count real in omega (arith, c .before .before .before .before .pre .1)) zero-f (c .before .before .loop .j) (c .before .loop-test .taken)))
 
--- src/slot.rt:45:1
 returns : tie.Need-returns Inv-loop μ-loop
 returns c =
     let n = c .before .before .before .args .n in

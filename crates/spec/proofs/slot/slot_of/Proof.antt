@@ -1,9 +1,6 @@
+-- `spec::slot::slot_of`: each row by its own clause of the rules. Assumes nothing.
 use mathlib.Core.Path.{ap, sym, subst, _∙_}
-use lib.Seq.{getD-drop}
-use native.Mathlib.Omega.{arith}
-use Prim.Native.Nat.{ℕ, _+_}
-use mathlib.Core.Path.{_≡_}
-use lib.ListN.{getD}
+use borrow.Author.Needs.{needs}
 use Rattle.rules.specs.Tree.{Node, pane, split}
 use Rattle.spec.specs.Row.{rowIs}
 use Rattle.spec.specs.Rows.{tableOf, panesAt}
@@ -12,23 +9,12 @@ use Rattle.spec.specs.Push.{rowNode}
 use Rattle.spec.specs.Slots.{Fit, SlotIs}
 use Rattle.spec.specs.SlotLaws.{first-of, first-room}
 use Rattle.spec.specs.declared.row.TableRow.{TableRow}
-use borrow.Author.Needs.{needs}
 use Rattle.spec.proofs.slot.slot_of.Statement.{statement}
 use Rattle.spec.proofs.slot.slot_of.Tie as tie
-use Rattle.spec.proofs.slot.slot_of.Reads as reads
-use Rattle.spec.proofs.slot.slot_of.Lts as lts
-use Rattle.spec.proofs.entry.pane_at.Reads as pane-at-reads
-use Rattle.spec.proofs.slot.children_of.Reads as children-of-reads
-use Rattle.spec.proofs.slot.pane_slot.Reads as pane-slot-reads
-use Rattle.spec.proofs.slot.reals_of.Reads as reals-of-reads
-use Rattle.spec.proofs.slot.split_from.Reads as split-from-reads
-use Rattle.spec.proofs.slot.tabs_slot.Reads as tabs-slot-reads
 
--- src/slot.rt:145:37
 enum-told : tie.Need-enum-told
 enum-told c = search needs
 
--- src/slot.rt:145:37
 pane-at-requires : tie.Need-pane-at-requires
 pane-at-requires c κs =
     let t = c .before .before .before .args .t in
@@ -39,15 +25,12 @@ pane-at-requires c κs =
     let rm = subst (λ (r : TableRow). Room t (rowIs r) p s m) (e) (c .before .before .before .pre .1) in
     (c .before .before .before .pre .0, first-room (c .before .before .before .args .p) (rm .panes))
 
--- src/slot.rt:145:27
 pane-slot-requires : tie.Need-pane-slot-requires
 pane-slot-requires c κs = search needs
 
--- src/slot.rt:147:13
 enum-known-row : tie.Need-enum-known-row
 enum-known-row c = search needs
 
--- src/slot.rt:150:14
 tabs-slot-requires : tie.Need-tabs-slot-requires
 tabs-slot-requires c κs =
     let t = c .before .before .before .before .args .t in
@@ -59,18 +42,15 @@ tabs-slot-requires c κs =
     let ft = subst (λ (r : TableRow). Fit (rowIs r)) (e) (c .before .before .before .before .pre .2) in
     (c .before .before .before .before .pre .0, rm .panes, ft .panes)
 
--- src/slot.rt:152:13
 enum-known-row-2 : tie.Need-enum-known-row-2
 enum-known-row-2 c = search needs
 
--- src/slot.rt:157:17
 children-of-requires : tie.Need-children-of-requires
 children-of-requires c κs =
     let e = c .before .row2 .given .1 in
     let ft = subst (λ (r : TableRow). Fit (rowIs r)) (e) (c .before .before .before .before .pre .2) in
     (c .before .before .before .before .pre .3, c .before .before .before .before .pre .4, ft .children)
 
--- src/slot.rt:158:17
 reals-of-requires : tie.Need-reals-of-requires
 reals-of-requires c κs =
     let t = c .before .before .before .before .before .args .t in
@@ -82,7 +62,6 @@ reals-of-requires c κs =
     let ft = subst (λ (r : TableRow). Fit (rowIs r)) (e) (c .before .before .before .before .before .pre .2) in
     (c .before .before .before .before .before .pre .0 .shares, rm .shares, ft .shares)
 
--- src/slot.rt:159:17
 reals-of-requires-2 : tie.Need-reals-of-requires-2
 reals-of-requires-2 c κs =
     let t = c .before .before .before .before .before .before .args .t in
@@ -94,11 +73,9 @@ reals-of-requires-2 c κs =
     let ft = subst (λ (r : TableRow). Fit (rowIs r)) (e) (c .before .before .before .before .before .before .pre .2) in
     (c .before .before .before .before .before .before .pre .0 .minima, rm .minima, ft .minima)
 
--- src/slot.rt:160:13
 split-from-requires : tie.Need-split-from-requires
 split-from-requires c κs = (c .before .before .children-of .ensures .few, c .before .reals-of .ensures .few, c .reals-of2 .ensures .few)
 
--- src/slot.rt:140:1
 returns : tie.Need-returns
 returns c =
     let bytes = c .before .before .before .before .before .args .b .now in
@@ -113,7 +90,6 @@ returns c =
     let to = ap (λ (r : TableRow). rowNode k i (rowIs r) (leftAt table p s m)) (sym (e)) in
     subst (λ (n : Node). SlotIs (c .pane-slot .result) n) (ap pane (c .before .pane-at .ensures ∙ first-of (panesAt bytes t) p) ∙ to) (c .pane-slot .ensures)
 
--- src/slot.rt:140:1
 returns-2 : tie.Need-returns-2
 returns-2 c =
     let k = c .before .before .before .before .before .args .kids .now in
@@ -128,7 +104,6 @@ returns-2 c =
     let to = ap (λ (r : TableRow). rowNode k i (rowIs r) (leftAt table p s m)) (sym (e)) in
     subst (λ (n : Node). SlotIs (c .tabs-slot .result) n) (to) (c .tabs-slot .ensures)
 
--- src/slot.rt:140:1
 returns-3 : tie.Need-returns-3
 returns-3 c =
     let k = c .before .before .before .before .before .before .before .before .args .kids .now in

@@ -1,23 +1,15 @@
+-- `spec::slots::slots_of`: each turn fills the next slot with the next node. Assumes nothing.
 use mathlib.Core.Path.{sym, subst}
 use Prim.Native.Nat.{_-_, _≤_}
 use native.Mathlib.Omega.{arith}
 use borrow.Author.Needs.{needs}
 use Rattle.rules.specs.Table.{Row}
 use Rattle.spec.specs.Row.{rowIs}
-use Rattle.spec.specs.Rows.{tableOf}
 use Rattle.spec.specs.Walk.{along-room}
 use Rattle.spec.specs.Slots.{Fit}
 use Rattle.spec.specs.SlotsLoop.{Slotting, slotting-start, slotting-more, slotting-end}
 use Rattle.spec.proofs.slots.slots_of.Statement.{statement}
 use Rattle.spec.proofs.slots.slots_of.Tie as tie
-use Rattle.spec.proofs.slots.slots_of.Reads as reads
-use Rattle.spec.proofs.slots.slots_of.Lts as lts
-use Rattle.spec.proofs.entry.known_row.Reads as known-row-reads
-use Rattle.spec.proofs.row.minima_used.Reads as minima-used-reads
-use Rattle.spec.proofs.row.panes_used.Reads as panes-used-reads
-use Rattle.spec.proofs.row.shares_used.Reads as shares-used-reads
-use Rattle.spec.proofs.slot.empty_slot.Reads as empty-slot-reads
-use Rattle.spec.proofs.slot.slot_of.Reads as slot-of-reads
 
 abbrev Inv-loop : tie.InvT-loop
 Inv-loop b t kids end slots₀ i₀ p₀ s₀ m₀ slots i p s m = Slotting b t kids end i p s m slots
@@ -25,11 +17,9 @@ Inv-loop b t kids end slots₀ i₀ p₀ s₀ m₀ slots i p s m = Slotting b t 
 abbrev μ-loop : tie.MeasureT-loop
 μ-loop b t kids end slots₀ i₀ p₀ s₀ m₀ slots i p s m = end - i
 
--- src/slots.rt:17:9
 empty-slot-requires : tie.Need-empty-slot-requires Inv-loop μ-loop
 empty-slot-requires c κs = search needs
 
--- src/slots.rt:23:5
 loop-holds : tie.Need-loop-holds Inv-loop μ-loop
 loop-holds c =
     let bytes = c .before .before .args .b .now in
@@ -39,7 +29,6 @@ loop-holds c =
     let pre = c .before .before .pre in
     slotting-start bytes t k end (pre) (c .empty-slot .result) (c .empty-slot .ensures)
 
--- src/slots.rt:24:13
 known-row-requires : tie.Need-known-row-requires Inv-loop μ-loop
 known-row-requires c κs =
     let pre = c .before .before .before .before .pre in
@@ -47,7 +36,6 @@ known-row-requires c κs =
     let t = c .before .before .before .before .args .t in
     (pre .placed, (let w : end ≤ t .«row_count» = pre .within in omega (arith, c .loop-test .taken)))
 
--- src/slots.rt:25:13
 slot-of-requires : tie.Need-slot-of-requires Inv-loop μ-loop
 slot-of-requires c κs =
     let pre = c .before .before .before .before .before .pre in
@@ -58,23 +46,19 @@ slot-of-requires c κs =
     let room = along-room bytes t (c .before .before .loop .i) (c .before .before .loop .p) (c .before .before .loop .s) (c .before .before .loop .m) row (c .before .before .loop .inv .along) (let w : end ≤ t .«row_count» = pre .within in omega (arith, c .before .loop-test .taken)) (c .known-row .ensures) in
     (pre .placed, room, subst (λ (r : Row). Fit r) (sym (c .known-row .ensures)) (pre .fit (c .before .before .loop .i) (let w : end ≤ t .«row_count» = pre .within in omega (arith, c .before .loop-test .taken))), pre .size, omega (arith, c .before .loop-test .taken, pre .within, pre .few))
 
--- src/slots.rt:26:9
 mul-slots : tie.Need-mul-slots Inv-loop μ-loop
 mul-slots c =
     let pre = c .before .before .before .before .before .before .pre in
     omega (arith, c .before .before .loop-test .taken, pre .within, pre .few)
 
--- src/slots.rt:26:9
 array-set-from-slots : tie.Need-array-set-from-slots Inv-loop μ-loop
 array-set-from-slots c =
     let pre = c .before .before .before .before .before .before .pre in
     omega (arith, c .before .before .loop-test .taken, pre .within, pre .few)
 
--- src/slots.rt:27:14
 panes-used-requires : tie.Need-panes-used-requires Inv-loop μ-loop
 panes-used-requires c κs = search needs
 
--- src/slots.rt:27:9
 add-p : tie.Need-add-p Inv-loop μ-loop
 add-p c =
     let bytes = c .before .before .before .before .before .before .before .args .b .now in
@@ -85,11 +69,9 @@ add-p c =
     let room = along-room bytes t (c .before .before .before .before .loop .i) (c .before .before .before .before .loop .p) (c .before .before .before .before .loop .s) (c .before .before .before .before .loop .m) row (c .before .before .before .before .loop .inv .along) (let w : end ≤ t .«row_count» = pre .within in omega (arith, c .before .before .before .loop-test .taken)) (c .before .before .known-row .ensures) in
     omega (arith, room .panes, c .panes-used .ensures, pre .placed .panes .few)
 
--- src/slots.rt:28:14
 shares-used-requires : tie.Need-shares-used-requires Inv-loop μ-loop
 shares-used-requires c κs = search needs
 
--- src/slots.rt:28:9
 add-s : tie.Need-add-s Inv-loop μ-loop
 add-s c =
     let bytes = c .before .before .before .before .before .before .before .before .args .b .now in
@@ -100,11 +82,9 @@ add-s c =
     let room = along-room bytes t (c .before .before .before .before .before .loop .i) (c .before .before .before .before .before .loop .p) (c .before .before .before .before .before .loop .s) (c .before .before .before .before .before .loop .m) row (c .before .before .before .before .before .loop .inv .along) (let w : end ≤ t .«row_count» = pre .within in omega (arith, c .before .before .before .before .loop-test .taken)) (c .before .before .before .known-row .ensures) in
     omega (arith, room .shares, c .shares-used .ensures, pre .placed .shares .few)
 
--- src/slots.rt:29:14
 minima-used-requires : tie.Need-minima-used-requires Inv-loop μ-loop
 minima-used-requires c κs = search needs
 
--- src/slots.rt:29:9
 add-m : tie.Need-add-m Inv-loop μ-loop
 add-m c =
     let bytes = c .before .before .before .before .before .before .before .before .before .args .b .now in
@@ -115,17 +95,14 @@ add-m c =
     let room = along-room bytes t (c .before .before .before .before .before .before .loop .i) (c .before .before .before .before .before .before .loop .p) (c .before .before .before .before .before .before .loop .s) (c .before .before .before .before .before .before .loop .m) row (c .before .before .before .before .before .before .loop .inv .along) (let w : end ≤ t .«row_count» = pre .within in omega (arith, c .before .before .before .before .before .loop-test .taken)) (c .before .before .before .before .known-row .ensures) in
     omega (arith, room .minima, c .minima-used .ensures, pre .placed .minima .few)
 
--- src/slots.rt:30:9
 add-i : tie.Need-add-i Inv-loop μ-loop
 add-i c =
     let pre = c .before .before .before .before .before .before .before .before .before .pre in
     omega (arith, c .before .before .before .before .before .loop-test .taken, pre .within, pre .few)
 
--- src/slots.rt:23:5
 loop-less : tie.Need-loop-less Inv-loop μ-loop
 loop-less c = omega (arith, c .before .before .before .before .before .loop-test .taken)
 
--- src/slots.rt:23:5
 loop-again : tie.Need-loop-again Inv-loop μ-loop
 loop-again c =
     let bytes = c .before .before .before .before .before .before .before .before .before .args .b .now in
@@ -136,7 +113,6 @@ loop-again c =
     let row = rowIs (c .before .before .before .before .known-row .result) in
     slotting-more bytes t k end (pre) (c .before .before .before .before .before .before .loop .i) (c .before .before .before .before .before .before .loop .p) (c .before .before .before .before .before .before .loop .s) (c .before .before .before .before .before .before .loop .m) (c .before .before .before .before .before .before .loop .slots) (c .before .before .before .before .before .before .loop .inv) (c .before .before .before .before .before .loop-test .taken) row (c .before .before .panes-used .result) (c .before .shares-used .result) (c .minima-used .result) (c .before .before .before .slot-of .result) (c .before .before .before .before .known-row .ensures) (c .before .before .panes-used .ensures) (c .before .shares-used .ensures) (c .minima-used .ensures) (c .before .before .before .slot-of .ensures)
 
--- src/slots.rt:13:1
 returns : tie.Need-returns Inv-loop μ-loop
 returns c =
     let bytes = c .before .before .before .before .args .b .now in

@@ -1,65 +1,53 @@
+-- `spec::table::find_sections`: the four sections one after another, and nothing after the last. Assumes nothing.
 use mathlib.Core.Path.{subst}
 use Prim.Native.Nat.{_+_, _*_}
 use native.Mathlib.Omega.{arith}
+use borrow.Author.Needs.{needs}
 use Rattle.spec.specs.Sections.{SectionAt}
 use Rattle.spec.specs.declared.table.Found.{Found}
 use Rattle.spec.specs.SectionLaws.{bad-rows, bad-panes, bad-shares, bad-minima, trailing, no-more}
-use borrow.Author.Needs.{needs}
 use Rattle.spec.proofs.table.find_sections.Statement.{statement}
 use Rattle.spec.proofs.table.find_sections.Tie as tie
-use Rattle.spec.proofs.table.find_sections.Reads as reads
-use Rattle.spec.proofs.table.find_sections.Lts as lts
-use Rattle.spec.proofs.table.section_at.Reads as section-at-reads
 
--- src/table.rt:50:38
 section-at-requires : tie.Need-section-at-requires
 section-at-requires c κs = search needs
 
--- src/table.rt:50:19
 enum-known-rows : tie.Need-enum-known-rows
 enum-known-rows c = search needs
 
--- src/table.rt:51:9
 enum-told : tie.Need-enum-told
 enum-told c = search needs
 
--- src/table.rt:51:9
 returns : tie.Need-returns
 returns c =
     let bytes = c .before .before .before .before .args .b .now in
     let no1 = subst (λ (f : Found). SectionAt bytes 0 f) (c .enum-told .given .1) (c .before .before .section-at .ensures) .is in
     bad-rows bytes no1
 
--- src/table.rt:53:61
 mul-section-at : tie.Need-mul-section-at
 mul-section-at c =
     let bytes = c .before .before .before .before .before .args .b .now in
     let k1 = subst (λ (f : Found). SectionAt bytes 0 f) (c .before .rows .given .1) (c .before .before .before .section-at .ensures) in
     omega (arith, k1 .here .few)
 
--- src/table.rt:53:54
 add-section-at : tie.Need-add-section-at
 add-section-at c =
     let bytes = c .before .before .before .before .before .args .b .now in
     let k1 = subst (λ (f : Found). SectionAt bytes 0 f) (c .before .rows .given .1) (c .before .before .before .section-at .ensures) in
     omega (arith, k1 .here .inside)
 
--- src/table.rt:53:40
 section-at-requires-2 : tie.Need-section-at-requires-2
 section-at-requires-2 c κs =
     let bytes = c .before .before .before .before .before .args .b .now in
     let k1 = subst (λ (f : Found). SectionAt bytes 0 f) (c .before .rows .given .1) (c .before .before .before .section-at .ensures) in
     k1 .here .inside
 
--- src/table.rt:53:19
 enum-known-panes : tie.Need-enum-known-panes
 enum-known-panes c = search needs
 
--- src/table.rt:54:9
 enum-told-2 : tie.Need-enum-told-2
 enum-told-2 c = search needs
 
--- src/table.rt:54:9
 returns-2 : tie.Need-returns-2
 returns-2 c =
     let bytes = c .before .before .before .before .before .before .before .before .args .b .now in
@@ -70,7 +58,6 @@ returns-2 c =
     let no2 = subst (λ (f : Found). SectionAt bytes q2 f) (c .enum-told2 .given .1) (c .before .before .section-at2 .ensures) .is in
     bad-panes bytes p1 n1 (k1 .is) no2
 
--- src/table.rt:56:64
 mul-section-at-2 : tie.Need-mul-section-at-2
 mul-section-at-2 c =
     let bytes = c .before .before .before .before .before .before .before .before .before .args .b .now in
@@ -80,7 +67,6 @@ mul-section-at-2 c =
     let k2 = subst (λ (f : Found). SectionAt bytes q2 f) (c .before .panes .given .1) (c .before .before .before .section-at2 .ensures) in
     omega (arith, k2 .here .few)
 
--- src/table.rt:56:56
 add-section-at-2 : tie.Need-add-section-at-2
 add-section-at-2 c =
     let bytes = c .before .before .before .before .before .before .before .before .before .args .b .now in
@@ -90,7 +76,6 @@ add-section-at-2 c =
     let k2 = subst (λ (f : Found). SectionAt bytes q2 f) (c .before .panes .given .1) (c .before .before .before .section-at2 .ensures) in
     omega (arith, k2 .here .inside)
 
--- src/table.rt:56:42
 section-at-requires-3 : tie.Need-section-at-requires-3
 section-at-requires-3 c κs =
     let bytes = c .before .before .before .before .before .before .before .before .before .args .b .now in
@@ -100,15 +85,12 @@ section-at-requires-3 c κs =
     let k2 = subst (λ (f : Found). SectionAt bytes q2 f) (c .before .panes .given .1) (c .before .before .before .section-at2 .ensures) in
     k2 .here .inside
 
--- src/table.rt:56:19
 enum-known-shares : tie.Need-enum-known-shares
 enum-known-shares c = search needs
 
--- src/table.rt:57:9
 enum-told-3 : tie.Need-enum-told-3
 enum-told-3 c = search needs
 
--- src/table.rt:57:9
 returns-3 : tie.Need-returns-3
 returns-3 c =
     let bytes = c .before .before .before .before .before .before .before .before .before .before .before .before .args .b .now in
@@ -123,7 +105,6 @@ returns-3 c =
     let no3 = subst (λ (f : Found). SectionAt bytes q3 f) (c .enum-told3 .given .1) (c .before .before .section-at3 .ensures) .is in
     bad-shares bytes p1 n1 (k1 .is) p2 n2 (k2 .is) no3
 
--- src/table.rt:59:67
 mul-section-at-3 : tie.Need-mul-section-at-3
 mul-section-at-3 c =
     let bytes = c .before .before .before .before .before .before .before .before .before .before .before .before .before .args .b .now in
@@ -133,7 +114,6 @@ mul-section-at-3 c =
     let k3 = subst (λ (f : Found). SectionAt bytes q3 f) (c .before .shares .given .1) (c .before .before .before .section-at3 .ensures) in
     omega (arith, k3 .here .few)
 
--- src/table.rt:59:58
 add-section-at-3 : tie.Need-add-section-at-3
 add-section-at-3 c =
     let bytes = c .before .before .before .before .before .before .before .before .before .before .before .before .before .args .b .now in
@@ -143,7 +123,6 @@ add-section-at-3 c =
     let k3 = subst (λ (f : Found). SectionAt bytes q3 f) (c .before .shares .given .1) (c .before .before .before .section-at3 .ensures) in
     omega (arith, k3 .here .inside)
 
--- src/table.rt:59:44
 section-at-requires-4 : tie.Need-section-at-requires-4
 section-at-requires-4 c κs =
     let bytes = c .before .before .before .before .before .before .before .before .before .before .before .before .before .args .b .now in
@@ -153,15 +132,12 @@ section-at-requires-4 c κs =
     let k3 = subst (λ (f : Found). SectionAt bytes q3 f) (c .before .shares .given .1) (c .before .before .before .section-at3 .ensures) in
     k3 .here .inside
 
--- src/table.rt:59:19
 enum-known-minima : tie.Need-enum-known-minima
 enum-known-minima c = search needs
 
--- src/table.rt:60:9
 enum-told-4 : tie.Need-enum-told-4
 enum-told-4 c = search needs
 
--- src/table.rt:60:9
 returns-4 : tie.Need-returns-4
 returns-4 c =
     let bytes = c .before .before .before .before .before .before .before .before .before .before .before .before .before .before .before .before .args .b .now in
@@ -180,7 +156,6 @@ returns-4 c =
     let no4 = subst (λ (f : Found). SectionAt bytes q4 f) (c .enum-told4 .given .1) (c .before .before .section-at4 .ensures) .is in
     bad-minima bytes p1 n1 (k1 .is) p2 n2 (k2 .is) p3 n3 (k3 .is) no4
 
--- src/table.rt:62:24
 mul-end : tie.Need-mul-end
 mul-end c =
     let bytes = c .before .before .before .before .before .before .before .before .before .before .before .before .before .before .before .before .before .args .b .now in
@@ -190,7 +165,6 @@ mul-end c =
     let k4 = subst (λ (f : Found). SectionAt bytes q4 f) (c .before .minima .given .1) (c .before .before .before .section-at4 .ensures) in
     omega (arith, k4 .here .few)
 
--- src/table.rt:62:15
 add-end : tie.Need-add-end
 add-end c =
     let bytes = c .before .before .before .before .before .before .before .before .before .before .before .before .before .before .before .before .before .args .b .now in
@@ -200,7 +174,6 @@ add-end c =
     let k4 = subst (λ (f : Found). SectionAt bytes q4 f) (c .before .minima .given .1) (c .before .before .before .section-at4 .ensures) in
     omega (arith, k4 .here .inside)
 
--- src/table.rt:64:9
 returns-5 : tie.Need-returns-5
 returns-5 c =
     let bytes = c .before .before .before .before .before .before .before .before .before .before .before .before .before .before .before .before .before .before .args .b .now in
@@ -221,7 +194,6 @@ returns-5 c =
     let k4 = subst (λ (f : Found). SectionAt bytes q4 f) (c .before .before .minima .given .1) (c .before .before .before .before .section-at4 .ensures) in
     trailing bytes p1 n1 (k1 .is) p2 n2 (k2 .is) p3 n3 (k3 .is) p4 n4 (k4 .is) (k4 .here .inside) (c .if1 .taken)
 
--- src/table.rt:47:1
 returns-6 : tie.Need-returns-6
 returns-6 c =
     let bytes = c .before .before .before .before .before .before .before .before .before .before .before .before .before .before .before .before .before .before .args .b .now in

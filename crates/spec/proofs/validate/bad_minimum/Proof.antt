@@ -1,3 +1,4 @@
+-- `spec::validate::bad_minimum`: a search for a minimum that is not good. Assumes nothing.
 use mathlib.Core.Path.{ap, sym, _∙_}
 use mathlib.Core.Bool.{not}
 use Prim.Native.Nat.{_-_, _≤_}
@@ -13,10 +14,6 @@ use Rattle.spec.specs.Entries.{length-entries}
 use Rattle.spec.specs.CheckLaws.{part-found, part-more, part-none}
 use Rattle.spec.proofs.validate.bad_minimum.Statement.{statement}
 use Rattle.spec.proofs.validate.bad_minimum.Tie as tie
-use Rattle.spec.proofs.validate.bad_minimum.Reads as reads
-use Rattle.spec.proofs.validate.bad_minimum.Lts as lts
-use Rattle.number.proofs.minimum_ok.Reads as minimum-ok-reads
-use Rattle.spec.proofs.entry.real_at.Reads as real-at-reads
 
 abbrev Inv-loop : tie.InvT-loop
 Inv-loop b start count from n i₀ i = (i ≤ n) × Passed (λ (x : Float). not (minimumOk x)) (take n (drop from (realsAt b start count))) i
@@ -24,7 +21,6 @@ Inv-loop b start count from n i₀ i = (i ≤ n) × Passed (λ (x : Float). not 
 abbrev μ-loop : tie.MeasureT-loop
 μ-loop b start count from n i₀ i = n - i
 
--- src/validate.rt:101:5
 loop-holds : tie.Need-loop-holds Inv-loop μ-loop
 loop-holds c =
     let n = c .before .args .n in
@@ -35,19 +31,15 @@ loop-holds c =
     let xs = realsAt bytes s count in
     (omega arith, passed-none (λ (x : Float). not (minimumOk x)) (take n (drop f xs)))
 
--- src/validate.rt:102:42
 add-real-at : tie.Need-add-real-at Inv-loop μ-loop
 add-real-at c = omega (arith, c .before .before .before .pre .1, c .loop-test .taken, c .before .before .before .pre .0 .few)
 
--- src/validate.rt:102:13
 real-at-requires : tie.Need-real-at-requires Inv-loop μ-loop
 real-at-requires c κs = (c .before .before .before .pre .0, omega (arith, c .before .before .before .pre .1, c .loop-test .taken))
 
--- src/validate.rt:103:13
 minimum-ok-requires : tie.Need-minimum-ok-requires Inv-loop μ-loop
 minimum-ok-requires c κs = search needs
 
--- src/validate.rt:104:13
 returns : tie.Need-returns Inv-loop μ-loop
 returns c =
     let bytes = c .before .before .before .before .before .before .args .b .now in
@@ -58,15 +50,12 @@ returns c =
     let n = c .before .before .before .before .before .before .args .n in
     part-found (λ (x : Float). not (minimumOk x)) xs f n (let l = length-entries bytes s count real in omega (arith, c .before .before .before .before .before .before .pre .1)) zero-f (c .before .before .before .before .loop .i) (c .before .before .before .loop-test .taken) (c .before .before .real-at .result) (c .before .before .real-at .ensures) (ap not (sym (c .before .minimum-ok .ensures)) ∙ c .if1 .taken) (c .before .before .before .before .loop .inv .1)
 
--- src/validate.rt:106:9
 add-i : tie.Need-add-i Inv-loop μ-loop
 add-i c = omega (arith, c .before .before .before .before .before .before .pre .1, c .before .before .before .loop-test .taken, c .before .before .before .before .before .before .pre .0 .few)
 
--- src/validate.rt:101:5
 loop-less : tie.Need-loop-less Inv-loop μ-loop
 loop-less c = omega (arith, c .before .before .before .loop-test .taken)
 
--- src/validate.rt:101:5
 loop-again : tie.Need-loop-again Inv-loop μ-loop
 loop-again c =
     let bytes = c .before .before .before .before .before .before .args .b .now in
@@ -77,7 +66,6 @@ loop-again c =
     let n = c .before .before .before .before .before .before .args .n in
     (omega (arith, c .before .before .before .loop-test .taken), part-more (λ (x : Float). not (minimumOk x)) xs f n (let l = length-entries bytes s count real in omega (arith, c .before .before .before .before .before .before .pre .1)) zero-f (c .before .before .before .before .loop .i) (c .before .before .before .loop-test .taken) (c .before .before .real-at .result) (c .before .before .real-at .ensures) (ap not (sym (c .before .minimum-ok .ensures)) ∙ c .if1 .left) (c .before .before .before .before .loop .inv .1))
 
--- src/validate.rt:96:1
 returns-2 : tie.Need-returns-2 Inv-loop μ-loop
 returns-2 c =
     let bytes = c .before .before .before .args .b .now in

@@ -1,24 +1,18 @@
+-- `spec::validate::check_row`: each row by its own clause of the rules. Assumes nothing.
 use mathlib.Core.Path.{ap, sym, subst, _∙_}
 use lib.ListN.{take}
+use borrow.Author.Needs.{needs}
 use Rattle.rules.specs.Spec.{rowRefusal}
 use Rattle.spec.specs.Row.{rowIs}
 use Rattle.spec.specs.Rows.{tableOf, panesAt}
 use Rattle.spec.specs.Checks.{leftAt, Room}
 use Rattle.spec.specs.declared.row.TableRow.{TableRow}
-use borrow.Author.Needs.{needs}
 use Rattle.spec.proofs.validate.check_row.Statement.{statement}
 use Rattle.spec.proofs.validate.check_row.Tie as tie
-use Rattle.spec.proofs.validate.check_row.Reads as reads
-use Rattle.spec.proofs.validate.check_row.Lts as lts
-use Rattle.spec.proofs.validate.check_split.Reads as check-split-reads
-use Rattle.spec.proofs.validate.check_tabs.Reads as check-tabs-reads
-use Rattle.spec.proofs.validate.first_duplicate.Reads as first-duplicate-reads
 
--- src/validate.rt:146:27
 enum-told : tie.Need-enum-told
 enum-told c = search needs
 
--- src/validate.rt:146:27
 first-duplicate-requires : tie.Need-first-duplicate-requires
 first-duplicate-requires c κs =
     let t = c .before .before .before .args .t in
@@ -29,11 +23,9 @@ first-duplicate-requires c κs =
     let rm = subst (λ (r : TableRow). Room t (rowIs r) p s m) (e) (c .before .before .before .pre .1) in
     (c .before .before .before .pre .0, rm .panes)
 
--- src/validate.rt:149:13
 enum-known-row : tie.Need-enum-known-row
 enum-known-row c = search needs
 
--- src/validate.rt:151:14
 check-tabs-requires : tie.Need-check-tabs-requires
 check-tabs-requires c κs =
     let t = c .before .before .before .before .args .t in
@@ -44,11 +36,9 @@ check-tabs-requires c κs =
     let rm = subst (λ (r : TableRow). Room t (rowIs r) p s m) (e) (c .before .before .before .before .pre .1) in
     (c .before .before .before .before .pre .0, rm .panes)
 
--- src/validate.rt:154:13
 enum-known-row-2 : tie.Need-enum-known-row-2
 enum-known-row-2 c = search needs
 
--- src/validate.rt:157:14
 check-split-requires : tie.Need-check-split-requires
 check-split-requires c κs =
     let t = c .before .before .before .before .args .t in
@@ -59,7 +49,6 @@ check-split-requires c κs =
     let rm = subst (λ (r : TableRow). Room t (rowIs r) p s m) (e) (c .before .before .before .before .pre .1) in
     (c .before .before .before .before .pre .0, rm .shares, rm .minima)
 
--- src/validate.rt:141:1
 returns : tie.Need-returns
 returns c =
     let bytes = c .before .before .before .before .args .b .now in
@@ -72,7 +61,6 @@ returns c =
     let to = ap (λ (r : TableRow). rowRefusal (rowIs r) (leftAt table p s m) (take p (panesAt bytes t))) (sym (e)) in
     c .first-duplicate .ensures ∙ to
 
--- src/validate.rt:141:1
 returns-2 : tie.Need-returns-2
 returns-2 c =
     let bytes = c .before .before .before .before .before .args .b .now in
@@ -85,7 +73,6 @@ returns-2 c =
     let to = ap (λ (r : TableRow). rowRefusal (rowIs r) (leftAt table p s m) (take p (panesAt bytes t))) (sym (e)) in
     c .check-tabs .ensures ∙ to
 
--- src/validate.rt:141:1
 returns-3 : tie.Need-returns-3
 returns-3 c =
     let bytes = c .before .before .before .before .before .args .b .now in

@@ -1,3 +1,4 @@
+-- `spec::validate::check_rows`: the walk of validation, with what is left of the sections. Assumes nothing.
 use mathlib.Core.Path.{refl, ap, sym, _∙_}
 use Prim.Native.Nat.{_-_}
 use native.Mathlib.Omega.{arith}
@@ -10,13 +11,6 @@ use Rattle.spec.specs.Walk.{Along, along-start, along-more, along-room}
 use Rattle.spec.specs.SplitLaws.{Checking, checking-bad, checking-more, checking-end}
 use Rattle.spec.proofs.validate.check_rows.Statement.{statement}
 use Rattle.spec.proofs.validate.check_rows.Tie as tie
-use Rattle.spec.proofs.validate.check_rows.Reads as reads
-use Rattle.spec.proofs.validate.check_rows.Lts as lts
-use Rattle.spec.proofs.entry.known_row.Reads as known-row-reads
-use Rattle.spec.proofs.row.minima_used.Reads as minima-used-reads
-use Rattle.spec.proofs.row.panes_used.Reads as panes-used-reads
-use Rattle.spec.proofs.row.shares_used.Reads as shares-used-reads
-use Rattle.spec.proofs.validate.check_row.Reads as check-row-reads
 
 abbrev Inv-loop : tie.InvT-loop
 Inv-loop b t n i₀ p₀ s₀ m₀ i p s m = Along (tableOf b t) i p s m × Checking (tableOf b t) i p s m
@@ -24,7 +18,6 @@ Inv-loop b t n i₀ p₀ s₀ m₀ i p s m = Along (tableOf b t) i p s m × Chec
 abbrev μ-loop : tie.MeasureT-loop
 μ-loop b t n i₀ p₀ s₀ m₀ i p s m = n - i
 
--- src/validate.rt:171:5
 loop-holds : tie.Need-loop-holds Inv-loop μ-loop
 loop-holds c =
     let bytes = c .before .args .b .now in
@@ -32,11 +25,9 @@ loop-holds c =
     let table = tableOf bytes t in
     (along-start table (c .before .pre .1), refl)
 
--- src/validate.rt:172:13
 known-row-requires : tie.Need-known-row-requires Inv-loop μ-loop
 known-row-requires c κs = (c .before .before .before .pre .0, c .loop-test .taken)
 
--- src/validate.rt:173:34
 check-row-requires : tie.Need-check-row-requires Inv-loop μ-loop
 check-row-requires c κs =
     let bytes = c .before .before .before .before .args .b .now in
@@ -45,11 +36,9 @@ check-row-requires c κs =
     let room = along-room bytes t (c .before .before .loop .i) (c .before .before .loop .p) (c .before .before .loop .s) (c .before .before .loop .m) row (c .before .before .loop .inv .0) (c .before .loop-test .taken) (c .known-row .ensures) in
     (c .before .before .before .before .pre .0, room)
 
--- src/validate.rt:173:29
 enum-known-e : tie.Need-enum-known-e Inv-loop μ-loop
 enum-known-e c = search needs
 
--- src/validate.rt:174:13
 returns : tie.Need-returns Inv-loop μ-loop
 returns c =
     let bytes = c .before .before .before .before .before .before .before .before .args .b .now in
@@ -62,11 +51,9 @@ returns c =
 enum-told : tie.Need-enum-told Inv-loop μ-loop
 enum-told c = search needs
 
--- src/validate.rt:176:14
 panes-used-requires : tie.Need-panes-used-requires Inv-loop μ-loop
 panes-used-requires c κs = search needs
 
--- src/validate.rt:176:9
 add-p : tie.Need-add-p Inv-loop μ-loop
 add-p c =
     let bytes = c .before .before .before .before .before .before .before .before .args .b .now in
@@ -75,11 +62,9 @@ add-p c =
     let room = along-room bytes t (c .before .before .before .before .before .before .loop .i) (c .before .before .before .before .before .before .loop .p) (c .before .before .before .before .before .before .loop .s) (c .before .before .before .before .before .before .loop .m) row (c .before .before .before .before .before .before .loop .inv .0) (c .before .before .before .before .before .loop-test .taken) (c .before .before .before .before .known-row .ensures) in
     omega (arith, room .panes, c .panes-used .ensures, c .before .before .before .before .before .before .before .before .pre .0 .panes .few)
 
--- src/validate.rt:177:14
 shares-used-requires : tie.Need-shares-used-requires Inv-loop μ-loop
 shares-used-requires c κs = search needs
 
--- src/validate.rt:177:9
 add-s : tie.Need-add-s Inv-loop μ-loop
 add-s c =
     let bytes = c .before .before .before .before .before .before .before .before .before .args .b .now in
@@ -88,11 +73,9 @@ add-s c =
     let room = along-room bytes t (c .before .before .before .before .before .before .before .loop .i) (c .before .before .before .before .before .before .before .loop .p) (c .before .before .before .before .before .before .before .loop .s) (c .before .before .before .before .before .before .before .loop .m) row (c .before .before .before .before .before .before .before .loop .inv .0) (c .before .before .before .before .before .before .loop-test .taken) (c .before .before .before .before .before .known-row .ensures) in
     omega (arith, room .shares, c .shares-used .ensures, c .before .before .before .before .before .before .before .before .before .pre .0 .shares .few)
 
--- src/validate.rt:178:14
 minima-used-requires : tie.Need-minima-used-requires Inv-loop μ-loop
 minima-used-requires c κs = search needs
 
--- src/validate.rt:178:9
 add-m : tie.Need-add-m Inv-loop μ-loop
 add-m c =
     let bytes = c .before .before .before .before .before .before .before .before .before .before .args .b .now in
@@ -101,15 +84,12 @@ add-m c =
     let room = along-room bytes t (c .before .before .before .before .before .before .before .before .loop .i) (c .before .before .before .before .before .before .before .before .loop .p) (c .before .before .before .before .before .before .before .before .loop .s) (c .before .before .before .before .before .before .before .before .loop .m) row (c .before .before .before .before .before .before .before .before .loop .inv .0) (c .before .before .before .before .before .before .before .loop-test .taken) (c .before .before .before .before .before .before .known-row .ensures) in
     omega (arith, room .minima, c .minima-used .ensures, c .before .before .before .before .before .before .before .before .before .before .pre .0 .minima .few)
 
--- src/validate.rt:179:9
 add-i : tie.Need-add-i Inv-loop μ-loop
 add-i c = omega (arith, c .before .before .before .before .before .before .before .loop-test .taken, c .before .before .before .before .before .before .before .before .before .before .pre .0 .rows .few)
 
--- src/validate.rt:171:5
 loop-less : tie.Need-loop-less Inv-loop μ-loop
 loop-less c = omega (arith, c .before .before .before .before .before .before .before .loop-test .taken)
 
--- src/validate.rt:171:5
 loop-again : tie.Need-loop-again Inv-loop μ-loop
 loop-again c =
     let bytes = c .before .before .before .before .before .before .before .before .before .before .args .b .now in
@@ -119,7 +99,6 @@ loop-again c =
     let len = length-entries bytes (t .rows) (t .«row_count») rowFrom in
     (along-more table (c .before .before .before .before .before .before .before .before .loop .i) (c .before .before .before .before .before .before .before .before .loop .p) (c .before .before .before .before .before .before .before .before .loop .s) (c .before .before .before .before .before .before .before .before .loop .m) row (c .before .before .panes-used .result) (c .before .shares-used .result) (c .minima-used .result) (c .before .before .before .before .before .before .before .before .loop .inv .0) (let q = len in omega (arith, c .before .before .before .before .before .before .before .loop-test .taken)) (c .before .before .before .before .before .before .known-row .ensures) (c .before .before .panes-used .ensures) (c .before .shares-used .ensures) (c .minima-used .ensures), checking-more table (c .before .before .before .before .before .before .before .before .loop .i) (c .before .before .before .before .before .before .before .before .loop .p) (c .before .before .before .before .before .before .before .before .loop .s) (c .before .before .before .before .before .before .before .before .loop .m) (c .before .before .before .before .before .before .before .before .loop .inv .1) (let q = len in omega (arith, c .before .before .before .before .before .before .before .loop-test .taken)) row (c .before .before .before .before .before .before .known-row .ensures) (c .before .before .panes-used .result) (c .before .shares-used .result) (c .minima-used .result) (c .before .before .panes-used .ensures) (c .before .shares-used .ensures) (c .minima-used .ensures) (ap checkedAs (sym (c .before .before .before .enum-told .given .1)) ∙ c .before .before .before .before .before .check-row .ensures))
 
--- src/validate.rt:162:1
 returns-2 : tie.Need-returns-2 Inv-loop μ-loop
 returns-2 c =
     let bytes = c .before .before .before .args .b .now in

@@ -1,21 +1,17 @@
+-- `spec::validate::check_split`: the checks of a split in their order. Assumes nothing.
 use mathlib.Core.Path.{ap, sym, _∙_}
 use native.Mathlib.Omega.{arith}
 use lib.ListN.{take, drop}
+use borrow.Author.Needs.{needs}
 use Rattle.rules.specs.Table.{real}
 use Rattle.lists.specs.Find.{placeOf}
 use Rattle.spec.specs.Rows.{tableOf}
 use Rattle.spec.specs.Entries.{length-entries}
 use Rattle.spec.specs.CheckLaws.{part-length}
 use Rattle.spec.specs.SplitLaws.{split-few, split-shares, split-share, split-many, split-minimum, split-good}
-use borrow.Author.Needs.{needs}
 use Rattle.spec.proofs.validate.check_split.Statement.{statement}
 use Rattle.spec.proofs.validate.check_split.Tie as tie
-use Rattle.spec.proofs.validate.check_split.Reads as reads
-use Rattle.spec.proofs.validate.check_split.Lts as lts
-use Rattle.spec.proofs.validate.bad_minimum.Reads as bad-minimum-reads
-use Rattle.spec.proofs.validate.bad_share.Reads as bad-share-reads
 
--- src/validate.rt:117:9
 returns : tie.Need-returns
 returns c =
     let n = c .before .before .args .n in
@@ -32,7 +28,6 @@ returns c =
     let b = part-length (table .minima) m nm (let l = length-entries bytes (t .minima) (t .«minimum_count») real in omega (arith, c .before .before .pre .2)) in
     split-few n ns nm ss ms a b (c .if1 .taken)
 
--- src/validate.rt:120:9
 returns-2 : tie.Need-returns-2
 returns-2 c =
     let n = c .before .before .before .args .n in
@@ -49,15 +44,12 @@ returns-2 c =
     let b = part-length (table .minima) m nm (let l = length-entries bytes (t .minima) (t .«minimum_count») real in omega (arith, c .before .before .before .pre .2)) in
     split-shares n ns nm ss ms a b (c .before .if1 .left) (c .if2 .taken)
 
--- src/validate.rt:125:31
 bad-share-requires : tie.Need-bad-share-requires
 bad-share-requires c κs = (c .before .before .before .pre .0 .shares, c .before .before .before .pre .1)
 
--- src/validate.rt:125:22
 enum-known-index : tie.Need-enum-known-index
 enum-known-index c = search needs
 
--- src/validate.rt:126:9
 returns-3 : tie.Need-returns-3
 returns-3 c =
     let n = c .before .before .before .before .before .before .before .args .n in
@@ -77,7 +69,6 @@ returns-3 c =
 enum-told : tie.Need-enum-told
 enum-told c = search needs
 
--- src/validate.rt:129:9
 returns-4 : tie.Need-returns-4
 returns-4 c =
     let n = c .before .before .before .before .before .before .before .args .n in
@@ -95,15 +86,12 @@ returns-4 c =
     let f = ap placeOf (sym (c .before .enum-told .given .1)) ∙ c .before .before .before .bad-share .ensures in
     split-many n ns nm ss ms a b (c .before .before .before .before .before .if1 .left) (c .before .before .before .before .if2 .left) f (c .if3 .taken)
 
--- src/validate.rt:134:31
 bad-minimum-requires : tie.Need-bad-minimum-requires
 bad-minimum-requires c κs = (c .before .before .before .before .before .before .before .pre .0 .minima, c .before .before .before .before .before .before .before .pre .2)
 
--- src/validate.rt:134:22
 enum-known-index-2 : tie.Need-enum-known-index-2
 enum-known-index-2 c = search needs
 
--- src/validate.rt:135:9
 returns-5 : tie.Need-returns-5
 returns-5 c =
     let n = c .before .before .before .before .before .before .before .before .before .before .before .args .n in
@@ -124,7 +112,6 @@ returns-5 c =
 enum-told-2 : tie.Need-enum-told-2
 enum-told-2 c = search needs
 
--- src/validate.rt:112:1
 returns-6 : tie.Need-returns-6
 returns-6 c =
     let n = c .before .before .before .before .before .before .before .before .before .before .args .n in

@@ -1,17 +1,13 @@
+-- `spec::validate::check_tabs`: the checks of a group in their order. Assumes nothing.
 use mathlib.Core.Path.{_∙_}
 use native.Mathlib.Omega.{arith}
 use Rattle.rules.specs.Table.{number}
 use Rattle.spec.specs.Rows.{panesAt}
 use Rattle.spec.specs.Entries.{length-entries}
 use Rattle.spec.specs.CheckLaws.{tabs-empty, tabs-active, tabs-panes}
-use borrow.Author.Needs.{needs}
 use Rattle.spec.proofs.validate.check_tabs.Statement.{statement}
 use Rattle.spec.proofs.validate.check_tabs.Tie as tie
-use Rattle.spec.proofs.validate.check_tabs.Reads as reads
-use Rattle.spec.proofs.validate.check_tabs.Lts as lts
-use Rattle.spec.proofs.validate.first_duplicate.Reads as first-duplicate-reads
 
--- src/validate.rt:71:9
 returns : tie.Need-returns
 returns c =
     let bytes = c .before .before .args .b .now in
@@ -22,7 +18,6 @@ returns c =
     let len = length-entries bytes (t .panes) (t .«pane_count») number in
     tabs-empty ps p n (let l = len in omega (arith, c .before .before .pre .1)) (c .before .before .args .active) (c .if1 .taken)
 
--- src/validate.rt:74:9
 returns-2 : tie.Need-returns-2
 returns-2 c =
     let bytes = c .before .before .before .args .b .now in
@@ -33,11 +28,9 @@ returns-2 c =
     let len = length-entries bytes (t .panes) (t .«pane_count») number in
     tabs-active ps p n (let l = len in omega (arith, c .before .before .before .pre .1)) (c .before .before .before .args .active) (c .before .if1 .left) (c .if2 .taken)
 
--- src/validate.rt:76:5
 first-duplicate-requires : tie.Need-first-duplicate-requires
 first-duplicate-requires c κs = c .before .before .before .pre
 
--- src/validate.rt:66:1
 returns-3 : tie.Need-returns-3
 returns-3 c =
     let bytes = c .before .before .before .before .args .b .now in

@@ -1,3 +1,4 @@
+-- `spec::validate::first_duplicate`: each pane is looked for among those before it. Assumes nothing.
 use mathlib.Core.Path.{_≡_, sym, _∙_}
 use Prim.Native.Nat.{_+_, _-_, _≤_}
 use native.Mathlib.Omega.{arith}
@@ -6,13 +7,9 @@ use Rattle.rules.specs.Spec.{duplicate}
 use Rattle.rules.specs.Table.{number}
 use Rattle.spec.specs.Rows.{panesAt}
 use Rattle.spec.specs.Entries.{length-entries}
-use Rattle.spec.specs.CheckLaws.{Fresh, fresh-start, fresh-not, fresh-more, fresh-end}
+use Rattle.spec.specs.CheckLaws.{fresh-start, fresh-not, fresh-more, fresh-end}
 use Rattle.spec.proofs.validate.first_duplicate.Statement.{statement}
 use Rattle.spec.proofs.validate.first_duplicate.Tie as tie
-use Rattle.spec.proofs.validate.first_duplicate.Reads as reads
-use Rattle.spec.proofs.validate.first_duplicate.Lts as lts
-use Rattle.spec.proofs.entry.pane_at.Reads as pane-at-reads
-use Rattle.spec.proofs.validate.seen_before.Reads as seen-before-reads
 
 abbrev Inv-loop : tie.InvT-loop
 Inv-loop b t p n k₀ k = (k ≤ n) × (duplicate (take (p + k) (panesAt b t)) (take (n - k) (drop (p + k) (panesAt b t))) ≡ duplicate (take p (panesAt b t)) (take n (drop p (panesAt b t))))
@@ -20,7 +17,6 @@ Inv-loop b t p n k₀ k = (k ≤ n) × (duplicate (take (p + k) (panesAt b t)) (
 abbrev μ-loop : tie.MeasureT-loop
 μ-loop b t p n k₀ k = n - k
 
--- src/validate.rt:55:5
 loop-holds : tie.Need-loop-holds Inv-loop μ-loop
 loop-holds c =
     let bytes = c .before .args .b .now in
@@ -31,23 +27,18 @@ loop-holds c =
     let len = length-entries bytes (t .panes) (t .«pane_count») number in
     (omega arith, fresh-start ps p n (let l = len in omega (arith, c .before .pre .1)) .rest)
 
--- src/validate.rt:56:31
 add-pane-at : tie.Need-add-pane-at Inv-loop μ-loop
 add-pane-at c = omega (arith, c .before .before .before .pre .1, c .loop-test .taken, c .before .before .before .pre .0 .panes .few)
 
--- src/validate.rt:56:13
 pane-at-requires : tie.Need-pane-at-requires Inv-loop μ-loop
 pane-at-requires c κs = (c .before .before .before .pre .0, omega (arith, c .before .before .before .pre .1, c .loop-test .taken))
 
--- src/validate.rt:57:30
 add-seen-before : tie.Need-add-seen-before Inv-loop μ-loop
 add-seen-before c = omega (arith, c .before .before .before .before .pre .1, c .before .loop-test .taken, c .before .before .before .before .pre .0 .panes .few)
 
--- src/validate.rt:57:12
 seen-before-requires : tie.Need-seen-before-requires Inv-loop μ-loop
 seen-before-requires c κs = (c .before .before .before .before .pre .0, omega (arith, c .before .before .before .before .pre .1, c .before .loop-test .taken))
 
--- src/validate.rt:58:13
 returns : tie.Need-returns Inv-loop μ-loop
 returns c =
     let bytes = c .before .before .before .before .before .before .args .b .now in
@@ -58,15 +49,12 @@ returns c =
     let len = length-entries bytes (t .panes) (t .«pane_count») number in
     fresh-not ps p n (let l = len in omega (arith, c .before .before .before .before .before .before .pre .1)) (c .before .before .before .before .loop .k) (record { within = c .before .before .before .before .loop .inv .0; rest = c .before .before .before .before .loop .inv .1 }) (c .before .before .before .loop-test .taken) (c .before .before .pane-at .result) (c .before .before .pane-at .ensures) (sym (c .if1 .taken) ∙ c .before .seen-before .ensures)
 
--- src/validate.rt:60:9
 add-k : tie.Need-add-k Inv-loop μ-loop
 add-k c = omega (arith, c .before .before .before .before .before .before .pre .1, c .before .before .before .loop-test .taken, c .before .before .before .before .before .before .pre .0 .panes .few)
 
--- src/validate.rt:55:5
 loop-less : tie.Need-loop-less Inv-loop μ-loop
 loop-less c = omega (arith, c .before .before .before .loop-test .taken)
 
--- src/validate.rt:55:5
 loop-again : tie.Need-loop-again Inv-loop μ-loop
 loop-again c =
     let bytes = c .before .before .before .before .before .before .args .b .now in
@@ -77,7 +65,6 @@ loop-again c =
     let len = length-entries bytes (t .panes) (t .«pane_count») number in
     (omega (arith, c .before .before .before .loop-test .taken), fresh-more ps p n (let l = len in omega (arith, c .before .before .before .before .before .before .pre .1)) (c .before .before .before .before .loop .k) (record { within = c .before .before .before .before .loop .inv .0; rest = c .before .before .before .before .loop .inv .1 }) (c .before .before .before .loop-test .taken) (c .before .before .pane-at .result) (c .before .before .pane-at .ensures) (sym (c .if1 .left) ∙ c .before .seen-before .ensures) .rest)
 
--- src/validate.rt:50:1
 returns-2 : tie.Need-returns-2 Inv-loop μ-loop
 returns-2 c =
     let bytes = c .before .before .before .args .b .now in

@@ -1,4 +1,5 @@
-use mathlib.Core.Path.{ap, sym, _∙_}
+-- `spec::validate::seen_before`: a search among the panes before. Assumes nothing.
+use mathlib.Core.Path.{sym, _∙_}
 use Prim.Native.Nat.{_-_}
 use native.Mathlib.Omega.{arith}
 use borrow.Author.Tests.{eq-eqb, ne-eqb}
@@ -10,9 +11,6 @@ use Rattle.spec.specs.Rows.{panesAt}
 use Rattle.spec.specs.Entries.{length-entries, Searching, search-start, search-found, search-more, search-end}
 use Rattle.spec.proofs.validate.seen_before.Statement.{statement}
 use Rattle.spec.proofs.validate.seen_before.Tie as tie
-use Rattle.spec.proofs.validate.seen_before.Reads as reads
-use Rattle.spec.proofs.validate.seen_before.Lts as lts
-use Rattle.spec.proofs.entry.pane_at.Reads as pane-at-reads
 
 abbrev Inv-loop : tie.InvT-loop
 Inv-loop b t q x j₀ j = Searching (eqb x) (take q (panesAt b t)) q j
@@ -20,7 +18,6 @@ Inv-loop b t q x j₀ j = Searching (eqb x) (take q (panesAt b t)) q j
 abbrev μ-loop : tie.MeasureT-loop
 μ-loop b t q x j₀ j = q - j
 
--- src/validate.rt:39:5
 loop-holds : tie.Need-loop-holds Inv-loop μ-loop
 loop-holds c =
     let x = c .before .args .x in
@@ -31,11 +28,9 @@ loop-holds c =
     let len = length-entries bytes (t .panes) (t .«pane_count») number in
     search-start (eqb x) (take q ps) q (length-take-le q ps (omega (arith, len, c .before .pre .1)))
 
--- src/validate.rt:40:13
 pane-at-requires : tie.Need-pane-at-requires Inv-loop μ-loop
 pane-at-requires c κs = (c .before .before .before .pre .0, omega (arith, c .before .before .before .pre .1, c .loop-test .taken))
 
--- src/validate.rt:42:13
 returns : tie.Need-returns Inv-loop μ-loop
 returns c =
     let x = c .before .before .before .before .before .args .x in
@@ -45,15 +40,12 @@ returns c =
     let ps = panesAt bytes t in
     search-found (eqb x) (take q ps) q (c .before .before .before .loop .j) 0 (c .before .before .before .loop .inv) (c .before .before .loop-test .taken) (sym (eq-eqb _ _ (c .if1 .taken ∙ (c .before .pane-at .ensures ∙ sym (getD-take q ps (c .before .before .before .loop .j) 0 (c .before .before .loop-test .taken))))))
 
--- src/validate.rt:44:9
 add-j : tie.Need-add-j Inv-loop μ-loop
 add-j c = omega (arith, c .before .before .loop-test .taken, c .before .before .before .before .before .pre .1, c .before .before .before .before .before .pre .0 .panes .few)
 
--- src/validate.rt:39:5
 loop-less : tie.Need-loop-less Inv-loop μ-loop
 loop-less c = omega (arith, c .before .before .loop-test .taken)
 
--- src/validate.rt:39:5
 loop-again : tie.Need-loop-again Inv-loop μ-loop
 loop-again c =
     let x = c .before .before .before .before .before .args .x in
@@ -63,7 +55,6 @@ loop-again c =
     let ps = panesAt bytes t in
     search-more (eqb x) (take q ps) q (c .before .before .before .loop .j) 0 (c .before .before .before .loop .inv) (c .before .before .loop-test .taken) (sym (ne-eqb _ _ (λ e. c .if1 .left (e ∙ sym (c .before .pane-at .ensures ∙ sym (getD-take q ps (c .before .before .before .loop .j) 0 (c .before .before .loop-test .taken)))))))
 
--- src/validate.rt:34:1
 returns-2 : tie.Need-returns-2 Inv-loop μ-loop
 returns-2 c =
     let x = c .before .before .before .args .x in
