@@ -24,23 +24,31 @@ refused-requires c κs = search needs
 
 returns : tie.Need-returns
 returns c =
-    let bytes = c .before .before .before .before .before .args .b .now in
-    subst (λ (b : Built). Drafted (c .refused .result .answer) (c .refused .result .tree) b) (draft-bad bytes (subst (λ (r : Sections). TableIs bytes r) (c .before .enum-told .given .1) (c .before .before .before .read-table .ensures))) (c .refused .ensures)
+    let entry = c .before .before .before .before .before in
+    let at-read-table = c .before .before .before .read-table in
+    let bytes = entry .args .b .now in
+    subst (λ (b : Built). Drafted (c .refused .result .answer) (c .refused .result .tree) b) (draft-bad bytes (subst (λ (r : Sections). TableIs bytes r) (c .before .enum-told .given .1) (at-read-table .ensures))) (c .refused .ensures)
 
 refused-requires-2 : tie.Need-refused-requires-2
 refused-requires-2 c κs = search needs
 
 returns-2 : tie.Need-returns-2
 returns-2 c =
-    let bytes = c .before .before .before .before .before .before .before .before .args .b .now in
-    let t = c .before .before .before .before .t .given .0 .0 in
-    let w = subst (λ (r : Sections). TableIs bytes r) (c .before .before .before .before .t .given .1) (c .before .before .before .before .before .before .read-table .ensures) in
+    let entry = c .before .before .before .before .before .before .before .before in
+    let at-read-table = c .before .before .before .before .before .before .read-table in
+    let at-t = c .before .before .before .before .t in
+    let bytes = entry .args .b .now in
+    let t = at-t .given .0 .0 in
+    let w = subst (λ (r : Sections). TableIs bytes r) (at-t .given .1) (at-read-table .ensures) in
     subst (λ (b : Built). Drafted (c .refused2 .result .answer) (c .refused2 .result .tree) b) (draft-full bytes t w (c .before .if1 .taken)) (c .refused2 .ensures)
 
 too-wide-requires : tie.Need-too-wide-requires
 too-wide-requires c κs =
-    let bytes = c .before .before .before .before .before .before .before .args .b .now in
-    let w = subst (λ (r : Sections). TableIs bytes r) (c .before .before .before .t .given .1) (c .before .before .before .before .before .read-table .ensures) in
+    let entry = c .before .before .before .before .before .before .before in
+    let at-read-table = c .before .before .before .before .before .read-table in
+    let at-t = c .before .before .before .t in
+    let bytes = entry .args .b .now in
+    let w = subst (λ (r : Sections). TableIs bytes r) (at-t .given .1) (at-read-table .ensures) in
     w .placed
 
 refused-requires-3 : tie.Need-refused-requires-3
@@ -48,15 +56,22 @@ refused-requires-3 c κs = search needs
 
 returns-3 : tie.Need-returns-3
 returns-3 c =
-    let bytes = c .before .before .before .before .before .before .before .before .before .before .args .b .now in
-    let t = c .before .before .before .before .before .before .t .given .0 .0 in
-    let w = subst (λ (r : Sections). TableIs bytes r) (c .before .before .before .before .before .before .t .given .1) (c .before .before .before .before .before .before .before .before .read-table .ensures) in
-    subst (λ (b : Built). Drafted (c .refused3 .result .answer) (c .refused3 .result .tree) b) (draft-wide bytes t w (c .before .before .before .if1 .left) (sym (c .before .if2 .taken) ∙ c .before .before .too-wide .ensures)) (c .refused3 .ensures)
+    let entry = c .before .before .before .before .before .before .before .before .before .before in
+    let at-read-table = c .before .before .before .before .before .before .before .before .read-table in
+    let at-t = c .before .before .before .before .before .before .t in
+    let at-if1 = c .before .before .before .if1 in
+    let bytes = entry .args .b .now in
+    let t = at-t .given .0 .0 in
+    let w = subst (λ (r : Sections). TableIs bytes r) (at-t .given .1) (at-read-table .ensures) in
+    subst (λ (b : Built). Drafted (c .refused3 .result .answer) (c .refused3 .result .tree) b) (draft-wide bytes t w (at-if1 .left) (sym (c .before .if2 .taken) ∙ c .before .before .too-wide .ensures)) (c .refused3 .ensures)
 
 check-rows-requires : tie.Need-check-rows-requires
 check-rows-requires c κs =
-    let bytes = c .before .before .before .before .before .before .before .before .before .args .b .now in
-    let w = subst (λ (r : Sections). TableIs bytes r) (c .before .before .before .before .before .t .given .1) (c .before .before .before .before .before .before .before .read-table .ensures) in
+    let entry = c .before .before .before .before .before .before .before .before .before in
+    let at-read-table = c .before .before .before .before .before .before .before .read-table in
+    let at-t = c .before .before .before .before .before .t in
+    let bytes = entry .args .b .now in
+    let w = subst (λ (r : Sections). TableIs bytes r) (at-t .given .1) (at-read-table .ensures) in
     (w .placed, w .used)
 
 enum-known-e : tie.Need-enum-known-e
@@ -67,32 +82,53 @@ refused-requires-4 c κs = search needs
 
 returns-4 : tie.Need-returns-4
 returns-4 c =
-    let bytes = c .before .before .before .before .before .before .before .before .before .before .before .before .before .before .args .b .now in
-    let t = c .before .before .before .before .before .before .before .before .before .before .t .given .0 .0 in
-    let w = subst (λ (r : Sections). TableIs bytes r) (c .before .before .before .before .before .before .before .before .before .before .t .given .1) (c .before .before .before .before .before .before .before .before .before .before .before .before .read-table .ensures) in
-    let g = sym (c .before .before .before .before .before .if2 .left) ∙ c .before .before .before .before .before .before .too-wide .ensures in
-    subst (λ (b : Built). Drafted (c .refused4 .result .answer) (c .refused4 .result .tree) b) (draft-refused bytes t w (c .before .before .before .before .before .before .before .if1 .left) g (c .before .before .e .given .0 .0) (ap checkedAs (sym (c .before .before .e .given .1)) ∙ c .before .before .before .before .check-rows .ensures)) (c .refused4 .ensures)
+    let entry = c .before .before .before .before .before .before .before .before .before .before .before .before .before .before in
+    let at-read-table = c .before .before .before .before .before .before .before .before .before .before .before .before .read-table in
+    let at-t = c .before .before .before .before .before .before .before .before .before .before .t in
+    let at-if1 = c .before .before .before .before .before .before .before .if1 in
+    let at-too-wide = c .before .before .before .before .before .before .too-wide in
+    let at-if2 = c .before .before .before .before .before .if2 in
+    let at-check-rows = c .before .before .before .before .check-rows in
+    let at-e = c .before .before .e in
+    let bytes = entry .args .b .now in
+    let t = at-t .given .0 .0 in
+    let w = subst (λ (r : Sections). TableIs bytes r) (at-t .given .1) (at-read-table .ensures) in
+    let g = sym (at-if2 .left) ∙ at-too-wide .ensures in
+    subst (λ (b : Built). Drafted (c .refused4 .result .answer) (c .refused4 .result .tree) b) (draft-refused bytes t w (at-if1 .left) g (at-e .given .0 .0) (ap checkedAs (sym (at-e .given .1)) ∙ at-check-rows .ensures)) (c .refused4 .ensures)
 
 enum-told-2 : tie.Need-enum-told-2
 enum-told-2 c = search needs
 
 built-tree-requires : tie.Need-built-tree-requires
 built-tree-requires c κs =
-    let bytes = c .before .before .before .before .before .before .before .before .before .before .before .before .args .b .now in
-    let t = c .before .before .before .before .before .before .before .before .t .given .0 .0 in
-    let w = subst (λ (r : Sections). TableIs bytes r) (c .before .before .before .before .before .before .before .before .t .given .1) (c .before .before .before .before .before .before .before .before .before .before .read-table .ensures) in
-    let g = sym (c .before .before .before .if2 .left) ∙ c .before .before .before .before .too-wide .ensures in
+    let entry = c .before .before .before .before .before .before .before .before .before .before .before .before in
+    let at-read-table = c .before .before .before .before .before .before .before .before .before .before .read-table in
+    let at-t = c .before .before .before .before .before .before .before .before .t in
+    let at-if1 = c .before .before .before .before .before .if1 in
+    let at-too-wide = c .before .before .before .before .too-wide in
+    let at-if2 = c .before .before .before .if2 in
+    let bytes = entry .args .b .now in
+    let t = at-t .given .0 .0 in
+    let w = subst (λ (r : Sections). TableIs bytes r) (at-t .given .1) (at-read-table .ensures) in
+    let g = sym (at-if2 .left) ∙ at-too-wide .ensures in
     let good = ap checkedAs (sym (c .enum-told2 .given .1)) ∙ c .before .before .check-rows .ensures in
-    passed bytes t w (c .before .before .before .before .before .if1 .left) g good
+    passed bytes t w (at-if1 .left) g good
 
 returns-5 : tie.Need-returns-5
 returns-5 c =
-    let bytes = c .before .before .before .before .before .before .before .before .before .before .before .before .before .args .b .now in
-    let t = c .before .before .before .before .before .before .before .before .before .t .given .0 .0 in
-    let w = subst (λ (r : Sections). TableIs bytes r) (c .before .before .before .before .before .before .before .before .before .t .given .1) (c .before .before .before .before .before .before .before .before .before .before .before .read-table .ensures) in
-    let g = sym (c .before .before .before .before .if2 .left) ∙ c .before .before .before .before .before .too-wide .ensures in
-    let good = ap checkedAs (sym (c .before .enum-told2 .given .1)) ∙ c .before .before .before .check-rows .ensures in
-    record { says = sym (ap (λ (b : Built). b .answer) (draft-built bytes t w (c .before .before .before .before .before .before .if1 .left) g good)); holds = c .built-tree .ensures ∙ sym (ap (λ (b : Built). b .tree) (draft-built bytes t w (c .before .before .before .before .before .before .if1 .left) g good)) }
+    let entry = c .before .before .before .before .before .before .before .before .before .before .before .before .before in
+    let at-read-table = c .before .before .before .before .before .before .before .before .before .before .before .read-table in
+    let at-t = c .before .before .before .before .before .before .before .before .before .t in
+    let at-if1 = c .before .before .before .before .before .before .if1 in
+    let at-too-wide = c .before .before .before .before .before .too-wide in
+    let at-if2 = c .before .before .before .before .if2 in
+    let at-check-rows = c .before .before .before .check-rows in
+    let bytes = entry .args .b .now in
+    let t = at-t .given .0 .0 in
+    let w = subst (λ (r : Sections). TableIs bytes r) (at-t .given .1) (at-read-table .ensures) in
+    let g = sym (at-if2 .left) ∙ at-too-wide .ensures in
+    let good = ap checkedAs (sym (c .before .enum-told2 .given .1)) ∙ at-check-rows .ensures in
+    record { says = sym (ap (λ (b : Built). b .answer) (draft-built bytes t w (at-if1 .left) g good)); holds = c .built-tree .ensures ∙ sym (ap (λ (b : Built). b .tree) (draft-built bytes t w (at-if1 .left) g good)) }
 
 pub build-spec : {M : Type 1} → statement M
 build-spec =

@@ -9,10 +9,15 @@ push-spec-requires : tie.Need-push-spec-requires
 push-spec-requires c κs = search needs
 
 slots-of-requires : tie.Need-slots-of-requires
-slots-of-requires c κs = slotted (c .before .before .before .before .args .b .now) (c .before .before .before .before .args .t) (c .before .before .before .before .pre) _ _ (c .before .push-spec .result) (c .before .push-spec .ensures)
+slots-of-requires c κs =
+    let entry = c .before .before .before .before in
+    slotted (entry .args .b .now) (entry .args .t) (entry .pre) _ _ (c .before .push-spec .result) (c .before .push-spec .ensures)
 
 returns : tie.Need-returns
-returns c = λ j. record { root = tile 0; revision = 0; nodes = built-nodes (c .before .before .before .before .before .args .b .now) (c .before .before .before .before .before .args .t) (c .before .before .before .before .before .pre) _ _ (c .before .before .push-spec .result) (c .slots-of .result) (c .before .before .push-spec .ensures) (c .slots-of .ensures) j; over = c .slots-of .ensures .fits j }
+returns c =
+    let entry = c .before .before .before .before .before in
+    let at-push-spec = c .before .before .push-spec in
+    λ j. record { root = tile 0; revision = 0; nodes = built-nodes (entry .args .b .now) (entry .args .t) (entry .pre) _ _ (at-push-spec .result) (c .slots-of .result) (at-push-spec .ensures) (c .slots-of .ensures) j; over = c .slots-of .ensures .fits j }
 
 pub built-tree-spec : {M : Type 1} → statement M
 built-tree-spec = tie.close (tie.spec push-spec-requires slots-of-requires returns)

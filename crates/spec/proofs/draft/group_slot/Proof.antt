@@ -19,7 +19,9 @@ empty-requires-3 : tie.Need-empty-requires-3
 empty-requires-3 c κs = search needs
 
 returns : tie.Need-returns
-returns c = record { view = ap (λ (l : List ℕ). tabs Hidden 0 l) (c .before .before .empty .ensures .list); fits = not-over (c .before .before .empty .result .len) (c .before .before .empty .ensures .few) }
+returns c =
+    let at-empty = c .before .before .empty in
+    record { view = ap (λ (l : List ℕ). tabs Hidden 0 l) (at-empty .ensures .list); fits = not-over (at-empty .result .len) (at-empty .ensures .few) }
 
 pub group-slot-spec : {M : Type 1} → statement M
 group-slot-spec = tie.close (tie.spec empty-requires empty-requires-2 empty-requires-3 returns)

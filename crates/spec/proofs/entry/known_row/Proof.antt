@@ -24,17 +24,21 @@ enum-told c = search needs
 
 returns : tie.Need-returns
 returns c =
-    let bytes = c .before .before .before .before .before .args .b .now in
-    let t = c .before .before .before .before .before .args .t in
-    let i = c .before .before .before .before .before .args .i in
-    ap (λ (r : RowRead). rowOr (readIs r)) (sym (c .before .row .given .1)) ∙ row-entry bytes (t .rows) (t .«row_count») i (c .before .before .before .before .before .pre .1) (readIs (c .before .before .before .row-at .result)) (c .before .before .before .row-at .ensures .is)
+    let entry = c .before .before .before .before .before in
+    let at-row-at = c .before .before .before .row-at in
+    let bytes = entry .args .b .now in
+    let t = entry .args .t in
+    let i = entry .args .i in
+    ap (λ (r : RowRead). rowOr (readIs r)) (sym (c .before .row .given .1)) ∙ row-entry bytes (t .rows) (t .«row_count») i (entry .pre .1) (readIs (at-row-at .result)) (at-row-at .ensures .is)
 
 returns-2 : tie.Need-returns-2
 returns-2 c =
-    let bytes = c .before .before .before .before .args .b .now in
-    let t = c .before .before .before .before .args .t in
-    let i = c .before .before .before .before .args .i in
-    ap (λ (r : RowRead). rowOr (readIs r)) (sym (c .enum-told .given .1)) ∙ row-entry bytes (t .rows) (t .«row_count») i (c .before .before .before .before .pre .1) (readIs (c .before .before .row-at .result)) (c .before .before .row-at .ensures .is)
+    let entry = c .before .before .before .before in
+    let at-row-at = c .before .before .row-at in
+    let bytes = entry .args .b .now in
+    let t = entry .args .t in
+    let i = entry .args .i in
+    ap (λ (r : RowRead). rowOr (readIs r)) (sym (c .enum-told .given .1)) ∙ row-entry bytes (t .rows) (t .«row_count») i (entry .pre .1) (readIs (at-row-at .result)) (at-row-at .ensures .is)
 
 pub known-row-spec : {M : Type 1} → statement M
 known-row-spec =

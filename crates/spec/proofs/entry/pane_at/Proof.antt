@@ -15,10 +15,11 @@ word-requires c κs = search needs
 
 returns : tie.Need-returns
 returns c =
-    let bytes = c .before .before .args .b .now in
-    let t = c .before .before .args .t in
-    let i = c .before .before .args .i in
-    number-entry bytes (t .panes) (t .«pane_count») i (c .before .before .pre .1) (c .word .result) (c .word .ensures)
+    let entry = c .before .before in
+    let bytes = entry .args .b .now in
+    let t = entry .args .t in
+    let i = entry .args .i in
+    number-entry bytes (t .panes) (t .«pane_count») i (entry .pre .1) (c .word .result) (c .word .ensures)
 
 pub pane-at-spec : {M : Type 1} → statement M
 pane-at-spec = tie.close (tie.spec mul-word add-word word-requires returns)

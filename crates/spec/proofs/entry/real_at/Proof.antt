@@ -18,9 +18,10 @@ decode-requires c κs = search needs
 
 returns : tie.Need-returns
 returns c =
-    let bytes = c .before .before .before .args .b .now in
-    let i = c .before .before .before .args .i in
-    real-entry bytes (c .before .before .before .args .start) (c .before .before .before .args .n) i (c .before .before .before .pre .1) (c .before .word .result) (c .decode .result) (c .before .word .ensures) (c .decode .ensures)
+    let entry = c .before .before .before in
+    let bytes = entry .args .b .now in
+    let i = entry .args .i in
+    real-entry bytes (entry .args .start) (entry .args .n) i (entry .pre .1) (c .before .word .result) (c .decode .result) (c .before .word .ensures) (c .decode .ensures)
 
 pub real-at-spec : {M : Type 1} → statement M
 real-at-spec = tie.close (tie.spec mul-word add-word word-requires decode-requires returns)

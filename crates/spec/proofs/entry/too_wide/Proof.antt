@@ -25,37 +25,51 @@ loop-holds c =
     search-start wideRow r n (length-entries bytes (t .rows) n rowFrom)
 
 known-row-requires : tie.Need-known-row-requires Inv-loop μ-loop
-known-row-requires c κs = (c .before .before .before .pre, c .loop-test .taken)
+known-row-requires c κs =
+    let entry = c .before .before .before in
+    (entry .pre, c .loop-test .taken)
 
 is-wide-requires : tie.Need-is-wide-requires Inv-loop μ-loop
 is-wide-requires c κs = search needs
 
 returns : tie.Need-returns Inv-loop μ-loop
 returns c =
-    let bytes = c .before .before .before .before .before .before .args .b .now in
-    let t = c .before .before .before .before .before .before .args .t in
+    let entry = c .before .before .before .before .before .before in
+    let at-loop = c .before .before .before .before .loop in
+    let at-loop-test = c .before .before .before .loop-test in
+    let bytes = entry .args .b .now in
+    let t = entry .args .t in
     let r = rowsAt bytes t in
     let n = t .«row_count» in
-    search-found wideRow r n (c .before .before .before .before .loop .i) paneRow (c .before .before .before .before .loop .inv) (c .before .before .before .loop-test .taken) (sym (c .if1 .taken) ∙ c .before .is-wide .ensures ∙ ap wideRow (c .before .before .known-row .ensures))
+    search-found wideRow r n (at-loop .i) paneRow (at-loop .inv) (at-loop-test .taken) (sym (c .if1 .taken) ∙ c .before .is-wide .ensures ∙ ap wideRow (c .before .before .known-row .ensures))
 
 add-i : tie.Need-add-i Inv-loop μ-loop
-add-i c = omega (arith, c .before .before .before .loop-test .taken, c .before .before .before .before .before .before .pre .rows .few)
+add-i c =
+    let entry = c .before .before .before .before .before .before in
+    let at-loop-test = c .before .before .before .loop-test in
+    omega (arith, at-loop-test .taken, entry .pre .rows .few)
 
 loop-less : tie.Need-loop-less Inv-loop μ-loop
-loop-less c = omega (arith, c .before .before .before .loop-test .taken)
+loop-less c =
+    let at-loop-test = c .before .before .before .loop-test in
+    omega (arith, at-loop-test .taken)
 
 loop-again : tie.Need-loop-again Inv-loop μ-loop
 loop-again c =
-    let bytes = c .before .before .before .before .before .before .args .b .now in
-    let t = c .before .before .before .before .before .before .args .t in
+    let entry = c .before .before .before .before .before .before in
+    let at-loop = c .before .before .before .before .loop in
+    let at-loop-test = c .before .before .before .loop-test in
+    let bytes = entry .args .b .now in
+    let t = entry .args .t in
     let r = rowsAt bytes t in
     let n = t .«row_count» in
-    search-more wideRow r n (c .before .before .before .before .loop .i) paneRow (c .before .before .before .before .loop .inv) (c .before .before .before .loop-test .taken) (sym (c .if1 .left) ∙ c .before .is-wide .ensures ∙ ap wideRow (c .before .before .known-row .ensures))
+    search-more wideRow r n (at-loop .i) paneRow (at-loop .inv) (at-loop-test .taken) (sym (c .if1 .left) ∙ c .before .is-wide .ensures ∙ ap wideRow (c .before .before .known-row .ensures))
 
 returns-2 : tie.Need-returns-2 Inv-loop μ-loop
 returns-2 c =
-    let bytes = c .before .before .before .args .b .now in
-    let t = c .before .before .before .args .t in
+    let entry = c .before .before .before in
+    let bytes = entry .args .b .now in
+    let t = entry .args .t in
     let r = rowsAt bytes t in
     let n = t .«row_count» in
     search-end wideRow r n (c .before .loop .i) (c .before .loop .inv) (c .loop-test .left)

@@ -18,27 +18,36 @@ enum-told c = search needs
 
 returns : tie.Need-returns
 returns c =
-    let bytes = c .before .before .before .before .args .b .now in
+    let entry = c .before .before .before .before in
+    let bytes = entry .args .b .now in
     subst (λ (r : Sections). SectionsAre bytes r) (c .enum-told .given .1) (c .before .before .find-sections .ensures) .is
 
 rows-fit-requires : tie.Need-rows-fit-requires
 rows-fit-requires c κs =
-    let bytes = c .before .before .before .before .before .args .b .now in
-    let w = subst (λ (r : Sections). SectionsAre bytes r) (c .before .t .given .1) (c .before .before .before .find-sections .ensures) in
+    let entry = c .before .before .before .before .before in
+    let at-find-sections = c .before .before .before .find-sections in
+    let bytes = entry .args .b .now in
+    let w = subst (λ (r : Sections). SectionsAre bytes r) (c .before .t .given .1) (at-find-sections .ensures) in
     w .here
 
 returns-2 : tie.Need-returns-2
 returns-2 c =
-    let bytes = c .before .before .before .before .before .before .before .args .b .now in
-    let t = c .before .before .before .t .given .0 .0 in
-    let w = subst (λ (r : Sections). SectionsAre bytes r) (c .before .before .before .t .given .1) (c .before .before .before .before .before .find-sections .ensures) in
+    let entry = c .before .before .before .before .before .before .before in
+    let at-find-sections = c .before .before .before .before .before .find-sections in
+    let at-t = c .before .before .before .t in
+    let bytes = entry .args .b .now in
+    let t = at-t .given .0 .0 in
+    let w = subst (λ (r : Sections). SectionsAre bytes r) (at-t .given .1) (at-find-sections .ensures) in
     table-good bytes t w (sym (c .if1 .taken) ∙ c .before .rows-fit .ensures)
 
 returns-3 : tie.Need-returns-3
 returns-3 c =
-    let bytes = c .before .before .before .before .before .before .before .args .b .now in
-    let t = c .before .before .before .t .given .0 .0 in
-    let w = subst (λ (r : Sections). SectionsAre bytes r) (c .before .before .before .t .given .1) (c .before .before .before .before .before .find-sections .ensures) in
+    let entry = c .before .before .before .before .before .before .before in
+    let at-find-sections = c .before .before .before .before .before .find-sections in
+    let at-t = c .before .before .before .t in
+    let bytes = entry .args .b .now in
+    let t = at-t .given .0 .0 in
+    let w = subst (λ (r : Sections). SectionsAre bytes r) (at-t .given .1) (at-find-sections .ensures) in
     table-bad bytes t w (sym (c .if1 .left) ∙ c .before .rows-fit .ensures)
 
 pub read-table-spec : {M : Type 1} → statement M

@@ -45,13 +45,14 @@ push-spec-returns : (t : ℕ) → push-spec-lts.Need-returns (
   push-spec.Post,
 ) (push-spec-at t) push-spec.Post push-spec-Inv-loop push-spec-μ-loop
 push-spec-returns t c =
-    let bytes = c .before .before .before .args .b .now in
-    let t = c .before .before .before .args .t in
+    let entry = c .before .before .before in
+    let bytes = entry .args .b .now in
+    let t = entry .args .t in
     let len = length-entries bytes (t .rows) (t .«row_count») rowFrom in
     let rows = rowsAt bytes t in
-    let k0 = c .before .before .before .args .kids .now in
-    let at = c .before .before .before .args .at in
-    let pre = c .before .before .before .pre .1 in
+    let k0 = entry .args .kids .now in
+    let at = entry .args .at in
+    let pre = entry .pre .1 in
     let q = len in pushed-none rows k0 at (pre .size) (omega (arith, pre .within)) (omega (arith, c .if1 .taken))
 
 push-spec-known-row-requires : (t : ℕ) → push-spec-lts.Need-known-row-requires (
@@ -63,7 +64,8 @@ push-spec-known-row-requires : (t : ℕ) → push-spec-lts.Need-known-row-requir
   push-spec.Post,
 ) (push-spec-at t) push-spec.Post push-spec-Inv-loop push-spec-μ-loop
 push-spec-known-row-requires t c κs =
-    let pre = c .before .before .before .pre .1 in
+    let entry = c .before .before .before in
+    let pre = entry .pre .1 in
     (pre .placed, c .if1 .left)
 
 push-spec-children-used-requires : (t : ℕ) → push-spec-lts.Need-children-used-requires (
@@ -85,7 +87,8 @@ push-spec-add-next : (t : ℕ) → push-spec-lts.Need-add-next (
   push-spec.Post,
 ) (push-spec-at t) push-spec.Post push-spec-Inv-loop push-spec-μ-loop
 push-spec-add-next t c =
-    let pre = c .before .before .before .before .before .pre .1 in
+    let entry = c .before .before .before .before .before in
+    let pre = entry .pre .1 in
     omega (arith, c .before .before .if1 .left, pre .few)
 
 push-spec-loop-holds : (t : ℕ) → push-spec-lts.Need-loop-holds (
@@ -97,14 +100,15 @@ push-spec-loop-holds : (t : ℕ) → push-spec-lts.Need-loop-holds (
   push-spec.Post,
 ) (push-spec-at t) push-spec.Post push-spec-Inv-loop push-spec-μ-loop
 push-spec-loop-holds t c =
-    let bytes = c .before .before .before .before .before .args .b .now in
-    let t = c .before .before .before .before .before .args .t in
+    let entry = c .before .before .before .before .before in
+    let bytes = entry .args .b .now in
+    let t = entry .args .t in
     let rows = rowsAt bytes t in
-    let at = c .before .before .before .before .before .args .at in
+    let at = entry .args .at in
     let n = c .children-used .result in
-    let k0 = c .before .before .before .before .before .args .kids .now in
+    let k0 = entry .args .kids .now in
     let len = length-entries bytes (t .rows) (t .«row_count») rowFrom in
-    let pre = c .before .before .before .before .before .pre .1 in
+    let pre = entry .pre .1 in
     (omega arith, fill-none (fill-start rows at n k0 (let q = len in omega (arith, c .before .before .if1 .left)) (pre .size)))
 
 push-spec-sub-j : (t : ℕ) → push-spec-lts.Need-sub-j (
@@ -126,14 +130,18 @@ push-spec-mul-kids : (t : ℕ) → push-spec-lts.Need-mul-kids (
   push-spec.Post,
 ) (push-spec-at t) push-spec.Post push-spec-Inv-loop push-spec-μ-loop
 push-spec-mul-kids t c =
-    let n = c .before .before .children-used .result in
-    let bytes = c .before .before .before .before .before .before .before .args .b .now in
-    let t = c .before .before .before .before .before .before .before .args .t in
+    let entry = c .before .before .before .before .before .before .before in
+    let at-if1 = c .before .before .before .before .if1 in
+    let at-known-row = c .before .before .before .known-row in
+    let at-children-used = c .before .before .children-used in
+    let n = at-children-used .result in
+    let bytes = entry .args .b .now in
+    let t = entry .args .t in
     let rows = rowsAt bytes t in
-    let at = c .before .before .before .before .before .before .before .args .at in
+    let at = entry .args .at in
     let len = length-entries bytes (t .rows) (t .«row_count») rowFrom in
-    let pre = c .before .before .before .before .before .before .before .pre .1 in
-    let few : n ≤ 16 = (let q = row-narrow rows at paneRow (let q = len in omega (arith, c .before .before .before .before .if1 .left)) (pre .narrow) in omega (arith, c .before .before .children-used .ensures, ap childrenUsed (c .before .before .before .known-row .ensures))) in omega (arith, c .before .before .before .before .if1 .left, pre .few, c .loop-test .taken, c .before .loop .inv .0)
+    let pre = entry .pre .1 in
+    let few : n ≤ 16 = (let q = row-narrow rows at paneRow (let q = len in omega (arith, at-if1 .left)) (pre .narrow) in omega (arith, at-children-used .ensures, ap childrenUsed (at-known-row .ensures))) in omega (arith, at-if1 .left, pre .few, c .loop-test .taken, c .before .loop .inv .0)
 
 push-spec-add-kids : (t : ℕ) → push-spec-lts.Need-add-kids (
   known-row-reads.Asked,
@@ -144,14 +152,18 @@ push-spec-add-kids : (t : ℕ) → push-spec-lts.Need-add-kids (
   push-spec.Post,
 ) (push-spec-at t) push-spec.Post push-spec-Inv-loop push-spec-μ-loop
 push-spec-add-kids t c =
-    let n = c .before .before .children-used .result in
-    let bytes = c .before .before .before .before .before .before .before .args .b .now in
-    let t = c .before .before .before .before .before .before .before .args .t in
+    let entry = c .before .before .before .before .before .before .before in
+    let at-if1 = c .before .before .before .before .if1 in
+    let at-known-row = c .before .before .before .known-row in
+    let at-children-used = c .before .before .children-used in
+    let n = at-children-used .result in
+    let bytes = entry .args .b .now in
+    let t = entry .args .t in
     let rows = rowsAt bytes t in
-    let at = c .before .before .before .before .before .before .before .args .at in
+    let at = entry .args .at in
     let len = length-entries bytes (t .rows) (t .«row_count») rowFrom in
-    let pre = c .before .before .before .before .before .before .before .pre .1 in
-    let few : n ≤ 16 = (let q = row-narrow rows at paneRow (let q = len in omega (arith, c .before .before .before .before .if1 .left)) (pre .narrow) in omega (arith, c .before .before .children-used .ensures, ap childrenUsed (c .before .before .before .known-row .ensures))) in omega (arith, c .before .before .before .before .if1 .left, pre .few, c .loop-test .taken, c .before .loop .inv .0)
+    let pre = entry .pre .1 in
+    let few : n ≤ 16 = (let q = row-narrow rows at paneRow (let q = len in omega (arith, at-if1 .left)) (pre .narrow) in omega (arith, at-children-used .ensures, ap childrenUsed (at-known-row .ensures))) in omega (arith, at-if1 .left, pre .few, c .loop-test .taken, c .before .loop .inv .0)
 
 push-spec-mul-kids-2 : (t : ℕ) → push-spec-lts.Need-mul-kids-2 (
   known-row-reads.Asked,
@@ -162,14 +174,18 @@ push-spec-mul-kids-2 : (t : ℕ) → push-spec-lts.Need-mul-kids-2 (
   push-spec.Post,
 ) (push-spec-at t) push-spec.Post push-spec-Inv-loop push-spec-μ-loop
 push-spec-mul-kids-2 t c =
-    let n = c .before .before .children-used .result in
-    let bytes = c .before .before .before .before .before .before .before .args .b .now in
-    let t = c .before .before .before .before .before .before .before .args .t in
+    let entry = c .before .before .before .before .before .before .before in
+    let at-if1 = c .before .before .before .before .if1 in
+    let at-known-row = c .before .before .before .known-row in
+    let at-children-used = c .before .before .children-used in
+    let n = at-children-used .result in
+    let bytes = entry .args .b .now in
+    let t = entry .args .t in
     let rows = rowsAt bytes t in
-    let at = c .before .before .before .before .before .before .before .args .at in
+    let at = entry .args .at in
     let len = length-entries bytes (t .rows) (t .«row_count») rowFrom in
-    let pre = c .before .before .before .before .before .before .before .pre .1 in
-    let few : n ≤ 16 = (let q = row-narrow rows at paneRow (let q = len in omega (arith, c .before .before .before .before .if1 .left)) (pre .narrow) in omega (arith, c .before .before .children-used .ensures, ap childrenUsed (c .before .before .before .known-row .ensures))) in omega (arith, c .before .before .before .before .if1 .left, pre .few, c .loop-test .taken, c .before .loop .inv .0)
+    let pre = entry .pre .1 in
+    let few : n ≤ 16 = (let q = row-narrow rows at paneRow (let q = len in omega (arith, at-if1 .left)) (pre .narrow) in omega (arith, at-children-used .ensures, ap childrenUsed (at-known-row .ensures))) in omega (arith, at-if1 .left, pre .few, c .loop-test .taken, c .before .loop .inv .0)
 
 push-spec-element-write-kids : (t : ℕ) → push-spec-lts.Need-element-write-kids (
   known-row-reads.Asked,
@@ -180,14 +196,18 @@ push-spec-element-write-kids : (t : ℕ) → push-spec-lts.Need-element-write-ki
   push-spec.Post,
 ) (push-spec-at t) push-spec.Post push-spec-Inv-loop push-spec-μ-loop
 push-spec-element-write-kids t c =
-    let n = c .before .before .children-used .result in
-    let bytes = c .before .before .before .before .before .before .before .args .b .now in
-    let t = c .before .before .before .before .before .before .before .args .t in
+    let entry = c .before .before .before .before .before .before .before in
+    let at-if1 = c .before .before .before .before .if1 in
+    let at-known-row = c .before .before .before .known-row in
+    let at-children-used = c .before .before .children-used in
+    let n = at-children-used .result in
+    let bytes = entry .args .b .now in
+    let t = entry .args .t in
     let rows = rowsAt bytes t in
-    let at = c .before .before .before .before .before .before .before .args .at in
+    let at = entry .args .at in
     let len = length-entries bytes (t .rows) (t .«row_count») rowFrom in
-    let pre = c .before .before .before .before .before .before .before .pre .1 in
-    let few : n ≤ 16 = (let q = row-narrow rows at paneRow (let q = len in omega (arith, c .before .before .before .before .if1 .left)) (pre .narrow) in omega (arith, c .before .before .children-used .ensures, ap childrenUsed (c .before .before .before .known-row .ensures))) in omega (arith, c .before .before .before .before .if1 .left, pre .few, c .loop-test .taken, c .before .loop .inv .0, c .before .loop .inv .1 .size)
+    let pre = entry .pre .1 in
+    let few : n ≤ 16 = (let q = row-narrow rows at paneRow (let q = len in omega (arith, at-if1 .left)) (pre .narrow) in omega (arith, at-children-used .ensures, ap childrenUsed (at-known-row .ensures))) in omega (arith, at-if1 .left, pre .few, c .loop-test .taken, c .before .loop .inv .0, c .before .loop .inv .1 .size)
 
 push-spec-push-spec-requires : (t : ℕ) → push-spec-lts.Need-push-spec-requires (
   known-row-reads.Asked,
@@ -198,14 +218,14 @@ push-spec-push-spec-requires : (t : ℕ) → push-spec-lts.Need-push-spec-requir
   push-spec.Post,
 ) (push-spec-at t) push-spec.Post push-spec-Inv-loop push-spec-μ-loop
 push-spec-push-spec-requires t c κs =
-    let bytes = c .before .before .before .before .before .before .before .before .args .b .now in
-    let t = c .before .before .before .before .before .before .before .before .args .t in
+    let entry = c .before .before .before .before .before .before .before .before in
+    let at-if1 = c .before .before .before .before .before .if1 in
+    let at-loop = c .before .before .loop in
+    let bytes = entry .args .b .now in
+    let t = entry .args .t in
     let len = length-entries bytes (t .rows) (t .«row_count») rowFrom in
-    let pre = c .before .before .before .before .before .before .before .before .pre .1 in
-    let at = c .before .before .before .before .before .before .before .before .args .at in
-    let n = c .before .before .before .children-used .result in
-    let j = n - c .before .before .loop .left in
-    let q = len in (omega (arith, c .before .before .before .before .before .before .before .before .pre .0, c .before .before .loop .inv .1 .low, c .before .before .loop .inv .1 .high, c .before .before .before .before .before .if1 .left), record { placed = pre .placed; few = pre .few; narrow = pre .narrow; within = omega (arith, c .before .before .loop .inv .1 .high); size = simp length-set (c .before .before .loop .inv .1 .size) })
+    let pre = entry .pre .1 in
+    let q = len in (omega (arith, entry .pre .0, at-loop .inv .1 .low, at-loop .inv .1 .high, at-if1 .left), record { placed = pre .placed; few = pre .few; narrow = pre .narrow; within = omega (arith, at-loop .inv .1 .high); size = simp length-set (at-loop .inv .1 .size) })
 
 push-spec-sub-left : (t : ℕ) → push-spec-lts.Need-sub-left (
   known-row-reads.Asked,
@@ -236,16 +256,22 @@ push-spec-loop-again : (t : ℕ) → push-spec-lts.Need-loop-again (
   push-spec.Post,
 ) (push-spec-at t) push-spec.Post push-spec-Inv-loop push-spec-μ-loop
 push-spec-loop-again t c =
-    let bytes = c .before .before .before .before .before .before .before .before .before .args .b .now in
-    let t = c .before .before .before .before .before .before .before .before .before .args .t in
+    let entry = c .before .before .before .before .before .before .before .before .before in
+    let at-if1 = c .before .before .before .before .before .before .if1 in
+    let at-known-row = c .before .before .before .before .before .known-row in
+    let at-children-used = c .before .before .before .before .children-used in
+    let at-loop = c .before .before .before .loop in
+    let at-loop-test = c .before .before .loop-test in
+    let bytes = entry .args .b .now in
+    let t = entry .args .t in
     let rows = rowsAt bytes t in
-    let at = c .before .before .before .before .before .before .before .before .before .args .at in
-    let n = c .before .before .before .before .children-used .result in
-    let k0 = c .before .before .before .before .before .before .before .before .before .args .kids .now in
-    let j = n - c .before .before .before .loop .left in
+    let at = entry .args .at in
+    let n = at-children-used .result in
+    let k0 = entry .args .kids .now in
+    let j = n - at-loop .left in
     let len = length-entries bytes (t .rows) (t .«row_count») rowFrom in
-    let pre = c .before .before .before .before .before .before .before .before .before .pre .1 in
-    (omega (arith, c .before .before .before .loop .inv .0), fill-counted (c .before .before .before .loop .left) (c .before .before .loop-test .taken) (c .before .before .before .loop .inv .0) (fill-more rows at n k0 (c .before .before .before .loop .kids) _ j (c .before .before .before .loop .next) (c .push-spec .result) (c .before .before .before .loop .inv .1) (omega (arith, c .before .before .loop-test .taken, c .before .before .before .loop .inv .0)) (let q = row-narrow rows at paneRow (let q = len in omega (arith, c .before .before .before .before .before .before .if1 .left)) (pre .narrow) in omega (arith, c .before .before .before .before .children-used .ensures, ap childrenUsed (c .before .before .before .before .before .known-row .ensures))) (omega (arith, c .before .before .before .before .before .before .if1 .left, pre .few)) (pre .narrow) (c .push-spec .ensures)))
+    let pre = entry .pre .1 in
+    (omega (arith, at-loop .inv .0), fill-counted (at-loop .left) (at-loop-test .taken) (at-loop .inv .0) (fill-more rows at n k0 (at-loop .kids) _ j (at-loop .next) (c .push-spec .result) (at-loop .inv .1) (omega (arith, at-loop-test .taken, at-loop .inv .0)) (let q = row-narrow rows at paneRow (let q = len in omega (arith, at-if1 .left)) (pre .narrow) in omega (arith, at-children-used .ensures, ap childrenUsed (at-known-row .ensures))) (omega (arith, at-if1 .left, pre .few)) (pre .narrow) (c .push-spec .ensures)))
 
 push-spec-returns-2 : (t : ℕ) → push-spec-lts.Need-returns-2 (
   known-row-reads.Asked,
@@ -256,15 +282,19 @@ push-spec-returns-2 : (t : ℕ) → push-spec-lts.Need-returns-2 (
   push-spec.Post,
 ) (push-spec-at t) push-spec.Post push-spec-Inv-loop push-spec-μ-loop
 push-spec-returns-2 t c =
-    let bytes = c .before .before .before .before .before .before .before .args .b .now in
-    let t = c .before .before .before .before .before .before .before .args .t in
+    let entry = c .before .before .before .before .before .before .before in
+    let at-if1 = c .before .before .before .before .if1 in
+    let at-known-row = c .before .before .before .known-row in
+    let at-children-used = c .before .before .children-used in
+    let bytes = entry .args .b .now in
+    let t = entry .args .t in
     let rows = rowsAt bytes t in
-    let at = c .before .before .before .before .before .before .before .args .at in
-    let n = c .before .before .children-used .result in
-    let k0 = c .before .before .before .before .before .before .before .args .kids .now in
+    let at = entry .args .at in
+    let n = at-children-used .result in
+    let k0 = entry .args .kids .now in
     let j = n - c .before .loop .left in
     let len = length-entries bytes (t .rows) (t .«row_count») rowFrom in
-    fill-end rows at n k0 (c .before .loop .kids) j (c .before .loop .next) (rowIs (c .before .before .before .known-row .result)) (c .before .loop .inv .1) (omega (arith, c .loop-test .left)) (let q = len in omega (arith, c .before .before .before .before .if1 .left)) (c .before .before .before .known-row .ensures) (c .before .before .children-used .ensures)
+    fill-end rows at n k0 (c .before .loop .kids) j (c .before .loop .next) (rowIs (at-known-row .result)) (c .before .loop .inv .1) (omega (arith, c .loop-test .left)) (let q = len in omega (arith, at-if1 .left)) (at-known-row .ensures) (at-children-used .ensures)
 
 pub +push-spec-spec : {M : Type 1} → statement M
 +push-spec-spec = close μ-push-spec λ t. push-spec-lts.spec (

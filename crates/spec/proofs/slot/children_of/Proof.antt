@@ -27,42 +27,59 @@ loop-holds c =
     building-start (tile 0) xs _ n (sym (children-length k i n (c .pre .0) (c .pre .1) (c .pre .2))) (c .pre .2) refl
 
 mul-x : tie.Need-mul-x Inv-loop μ-loop
-mul-x c = omega (arith, c .before .before .pre .0, c .before .before .pre .1, c .before .before .pre .2, c .loop-test .taken)
+mul-x c =
+    let entry = c .before .before in
+    omega (arith, entry .pre .0, entry .pre .1, entry .pre .2, c .loop-test .taken)
 
 add-x : tie.Need-add-x Inv-loop μ-loop
-add-x c = omega (arith, c .before .before .pre .0, c .before .before .pre .1, c .before .before .pre .2, c .loop-test .taken)
+add-x c =
+    let entry = c .before .before in
+    omega (arith, entry .pre .0, entry .pre .1, entry .pre .2, c .loop-test .taken)
 
 mul-x-2 : tie.Need-mul-x-2 Inv-loop μ-loop
-mul-x-2 c = omega (arith, c .before .before .pre .0, c .before .before .pre .1, c .before .before .pre .2, c .loop-test .taken)
+mul-x-2 c =
+    let entry = c .before .before in
+    omega (arith, entry .pre .0, entry .pre .1, entry .pre .2, c .loop-test .taken)
 
 element-copy-out-x : tie.Need-element-copy-out-x Inv-loop μ-loop
-element-copy-out-x c = omega (arith, c .before .before .pre .0, c .before .before .pre .1, c .before .before .pre .2, c .loop-test .taken)
+element-copy-out-x c =
+    let entry = c .before .before in
+    omega (arith, entry .pre .0, entry .pre .1, entry .pre .2, c .loop-test .taken)
 
 mul-at : tie.Need-mul-at Inv-loop μ-loop
-mul-at c = omega (arith, c .before .before .before .pre .0, c .before .before .before .pre .1, c .before .before .before .pre .2, c .before .loop-test .taken)
+mul-at c =
+    let entry = c .before .before .before in
+    omega (arith, entry .pre .0, entry .pre .1, entry .pre .2, c .before .loop-test .taken)
 
 array-set-from-at : tie.Need-array-set-from-at Inv-loop μ-loop
-array-set-from-at c = omega (arith, c .before .before .before .pre .0, c .before .before .before .pre .1, c .before .before .before .pre .2, c .before .loop-test .taken)
+array-set-from-at c =
+    let entry = c .before .before .before in
+    omega (arith, entry .pre .0, entry .pre .1, entry .pre .2, c .before .loop-test .taken)
 
 add-j : tie.Need-add-j Inv-loop μ-loop
-add-j c = omega (arith, c .before .before .before .pre .0, c .before .before .before .pre .1, c .before .before .before .pre .2, c .before .loop-test .taken)
+add-j c =
+    let entry = c .before .before .before in
+    omega (arith, entry .pre .0, entry .pre .1, entry .pre .2, c .before .loop-test .taken)
 
 loop-less : tie.Need-loop-less Inv-loop μ-loop
 loop-less c = omega (arith, c .before .loop-test .taken)
 
 loop-again : tie.Need-loop-again Inv-loop μ-loop
 loop-again c =
-    let k = c .before .before .before .args .kids .now in
-    let i = c .before .before .before .args .i in
-    let n = c .before .before .before .args .n in
+    let entry = c .before .before .before in
+    let at-loop = c .before .before .loop in
+    let k = entry .args .kids .now in
+    let i = entry .args .i in
+    let n = entry .args .n in
     let xs = childrenAt k i n in
-    building-more (tile 0) xs (c .before .before .loop .at) n (c .before .before .loop .j) (tile (getD k (16 * i + c .before .before .loop .j) 0)) (c .before .before .loop .inv) (c .before .loop-test .taken) (child-at k i n (c .before .before .loop .j) (getD k (16 * i + c .before .before .loop .j) 0) (c .before .before .before .pre .0) (c .before .before .before .pre .1) (c .before .before .before .pre .2) (c .before .loop-test .taken) refl)
+    building-more (tile 0) xs (at-loop .at) n (at-loop .j) (tile (getD k (16 * i + at-loop .j) 0)) (at-loop .inv) (c .before .loop-test .taken) (child-at k i n (at-loop .j) (getD k (16 * i + at-loop .j) 0) (entry .pre .0) (entry .pre .1) (entry .pre .2) (c .before .loop-test .taken) refl)
 
 returns : tie.Need-returns Inv-loop μ-loop
 returns c =
-    let k = c .before .before .args .kids .now in
-    let i = c .before .before .args .i in
-    let n = c .before .before .args .n in
+    let entry = c .before .before in
+    let k = entry .args .kids .now in
+    let i = entry .args .i in
+    let n = entry .args .n in
     let xs = childrenAt k i n in
     building-done (tile 0) xs (c .before .loop .at) n (c .before .loop .j) (c .before .loop .inv) (c .loop-test .left)
 

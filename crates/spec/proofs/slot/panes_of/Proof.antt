@@ -1,6 +1,6 @@
 -- `spec::slot::panes_of`: fills a fresh list. Assumes nothing.
-use mathlib.Core.Path.{refl, sym, _∙_}
 use Prim.Native.Nat.{_-_, ℕ}
+use mathlib.Core.Path.{refl, sym, _∙_}
 use native.Mathlib.Omega.{arith}
 use lib.ListN.{take, drop}
 use mathlib.Core.Bool.{true}
@@ -31,39 +31,52 @@ loop-holds c =
     building-start 0 part _ n (sym (part-length xs p n (let q = length-entries bytes (t .panes) (t .«pane_count») number in omega (arith, c .before .pre .1)))) (c .before .pre .2) refl
 
 add-pane-at : tie.Need-add-pane-at Inv-loop μ-loop
-add-pane-at c = omega (arith, c .before .before .before .pre .1, c .before .before .before .pre .0 .panes .few, c .loop-test .taken)
+add-pane-at c =
+    let entry = c .before .before .before in
+    omega (arith, entry .pre .1, entry .pre .0 .panes .few, c .loop-test .taken)
 
 pane-at-requires : tie.Need-pane-at-requires Inv-loop μ-loop
-pane-at-requires c κs = (c .before .before .before .pre .0, omega (arith, c .before .before .before .pre .1, c .loop-test .taken))
+pane-at-requires c κs =
+    let entry = c .before .before .before in
+    (entry .pre .0, omega (arith, entry .pre .1, c .loop-test .taken))
 
 mul-at : tie.Need-mul-at Inv-loop μ-loop
-mul-at c = omega (arith, c .before .before .before .before .pre .2, c .before .loop-test .taken)
+mul-at c =
+    let entry = c .before .before .before .before in
+    omega (arith, entry .pre .2, c .before .loop-test .taken)
 
 array-write-at : tie.Need-array-write-at Inv-loop μ-loop
-array-write-at c = omega (arith, c .before .before .before .before .pre .2, c .before .loop-test .taken)
+array-write-at c =
+    let entry = c .before .before .before .before in
+    omega (arith, entry .pre .2, c .before .loop-test .taken)
 
 add-j : tie.Need-add-j Inv-loop μ-loop
-add-j c = omega (arith, c .before .before .before .before .pre .2, c .before .loop-test .taken)
+add-j c =
+    let entry = c .before .before .before .before in
+    omega (arith, entry .pre .2, c .before .loop-test .taken)
 
 loop-less : tie.Need-loop-less Inv-loop μ-loop
 loop-less c = omega (arith, c .before .loop-test .taken)
 
 loop-again : tie.Need-loop-again Inv-loop μ-loop
 loop-again c =
-    let n = c .before .before .before .before .args .n in
-    let p = c .before .before .before .before .args .p in
-    let bytes = c .before .before .before .before .args .b .now in
-    let t = c .before .before .before .before .args .t in
+    let entry = c .before .before .before .before in
+    let at-loop = c .before .before .loop in
+    let n = entry .args .n in
+    let p = entry .args .p in
+    let bytes = entry .args .b .now in
+    let t = entry .args .t in
     let xs = panesAt bytes t in
     let part = take n (drop p xs) in
-    building-more 0 part (c .before .before .loop .at) n (c .before .before .loop .j) (c .pane-at .result) (c .before .before .loop .inv) (c .before .loop-test .taken) (c .pane-at .ensures ∙ sym (part-at (λ (x : ℕ). true) xs p n (let q = length-entries bytes (t .panes) (t .«pane_count») number in omega (arith, c .before .before .before .before .pre .1)) 0 (c .before .before .loop .j) (c .before .loop-test .taken)))
+    building-more 0 part (at-loop .at) n (at-loop .j) (c .pane-at .result) (at-loop .inv) (c .before .loop-test .taken) (c .pane-at .ensures ∙ sym (part-at (λ (x : ℕ). true) xs p n (let q = length-entries bytes (t .panes) (t .«pane_count») number in omega (arith, entry .pre .1)) 0 (at-loop .j) (c .before .loop-test .taken)))
 
 returns : tie.Need-returns Inv-loop μ-loop
 returns c =
-    let n = c .before .before .before .args .n in
-    let p = c .before .before .before .args .p in
-    let bytes = c .before .before .before .args .b .now in
-    let t = c .before .before .before .args .t in
+    let entry = c .before .before .before in
+    let n = entry .args .n in
+    let p = entry .args .p in
+    let bytes = entry .args .b .now in
+    let t = entry .args .t in
     let xs = panesAt bytes t in
     let part = take n (drop p xs) in
     building-done 0 part (c .before .loop .at) n (c .before .loop .j) (c .before .loop .inv) (c .loop-test .left)

@@ -34,41 +34,54 @@ loop-holds c =
     building-start zero-f part _ n (sym (part-length xs p n (let q = length-entries bytes s count real in omega (arith, c .before .pre .1)))) (c .before .pre .2) refl
 
 add-real-at : tie.Need-add-real-at Inv-loop μ-loop
-add-real-at c = omega (arith, c .before .before .before .pre .1, c .before .before .before .pre .0 .few, c .loop-test .taken)
+add-real-at c =
+    let entry = c .before .before .before in
+    omega (arith, entry .pre .1, entry .pre .0 .few, c .loop-test .taken)
 
 real-at-requires : tie.Need-real-at-requires Inv-loop μ-loop
-real-at-requires c κs = (c .before .before .before .pre .0, omega (arith, c .before .before .before .pre .1, c .loop-test .taken))
+real-at-requires c κs =
+    let entry = c .before .before .before in
+    (entry .pre .0, omega (arith, entry .pre .1, c .loop-test .taken))
 
 mul-at : tie.Need-mul-at Inv-loop μ-loop
-mul-at c = omega (arith, c .before .before .before .before .pre .2, c .before .loop-test .taken)
+mul-at c =
+    let entry = c .before .before .before .before in
+    omega (arith, entry .pre .2, c .before .loop-test .taken)
 
 array-write-at : tie.Need-array-write-at Inv-loop μ-loop
-array-write-at c = omega (arith, c .before .before .before .before .pre .2, c .before .loop-test .taken)
+array-write-at c =
+    let entry = c .before .before .before .before in
+    omega (arith, entry .pre .2, c .before .loop-test .taken)
 
 add-j : tie.Need-add-j Inv-loop μ-loop
-add-j c = omega (arith, c .before .before .before .before .pre .2, c .before .loop-test .taken)
+add-j c =
+    let entry = c .before .before .before .before in
+    omega (arith, entry .pre .2, c .before .loop-test .taken)
 
 loop-less : tie.Need-loop-less Inv-loop μ-loop
 loop-less c = omega (arith, c .before .loop-test .taken)
 
 loop-again : tie.Need-loop-again Inv-loop μ-loop
 loop-again c =
-    let n = c .before .before .before .before .args .n in
-    let p = c .before .before .before .before .args .from in
-    let bytes = c .before .before .before .before .args .b .now in
-    let s = c .before .before .before .before .args .start in
-    let count = c .before .before .before .before .args .count in
+    let entry = c .before .before .before .before in
+    let at-loop = c .before .before .loop in
+    let n = entry .args .n in
+    let p = entry .args .from in
+    let bytes = entry .args .b .now in
+    let s = entry .args .start in
+    let count = entry .args .count in
     let xs = realsAt bytes s count in
     let part = take n (drop p xs) in
-    building-more zero-f part (c .before .before .loop .at) n (c .before .before .loop .j) (c .real-at .result) (c .before .before .loop .inv) (c .before .loop-test .taken) (c .real-at .ensures ∙ sym (part-at (λ (x : Float). true) xs p n (let q = length-entries bytes s count real in omega (arith, c .before .before .before .before .pre .1)) zero-f (c .before .before .loop .j) (c .before .loop-test .taken)))
+    building-more zero-f part (at-loop .at) n (at-loop .j) (c .real-at .result) (at-loop .inv) (c .before .loop-test .taken) (c .real-at .ensures ∙ sym (part-at (λ (x : Float). true) xs p n (let q = length-entries bytes s count real in omega (arith, entry .pre .1)) zero-f (at-loop .j) (c .before .loop-test .taken)))
 
 returns : tie.Need-returns Inv-loop μ-loop
 returns c =
-    let n = c .before .before .before .args .n in
-    let p = c .before .before .before .args .from in
-    let bytes = c .before .before .before .args .b .now in
-    let s = c .before .before .before .args .start in
-    let count = c .before .before .before .args .count in
+    let entry = c .before .before .before in
+    let n = entry .args .n in
+    let p = entry .args .from in
+    let bytes = entry .args .b .now in
+    let s = entry .args .start in
+    let count = entry .args .count in
     let xs = realsAt bytes s count in
     let part = take n (drop p xs) in
     building-done zero-f part (c .before .loop .at) n (c .before .loop .j) (c .before .loop .inv) (c .loop-test .left)

@@ -18,7 +18,10 @@ empty-requires-2 : tie.Need-empty-requires-2
 empty-requires-2 c κs = search needs
 
 returns : tie.Need-returns
-returns c = record { view = ap (λ (l : List ℕ). tabs (c .before .before .before .before .args .placement) (c .before .before .before .before .args .active) l) (c .before .before .panes-of .ensures .list); fits = not-over (c .before .before .panes-of .result .len) (c .before .before .panes-of .ensures .few) }
+returns c =
+    let entry = c .before .before .before .before in
+    let at-panes-of = c .before .before .panes-of in
+    record { view = ap (λ (l : List ℕ). tabs (entry .args .placement) (entry .args .active) l) (at-panes-of .ensures .list); fits = not-over (at-panes-of .result .len) (at-panes-of .ensures .few) }
 
 pub tabs-slot-spec : {M : Type 1} → statement M
 tabs-slot-spec = tie.close (tie.spec panes-of-requires empty-requires empty-requires-2 returns)

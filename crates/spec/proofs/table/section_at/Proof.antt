@@ -9,8 +9,9 @@ sub-if1 c = search needs
 
 returns : tie.Need-returns
 returns c =
-    let bytes = c .before .before .args .b .now in
-    short-count bytes (c .before .before .args .p) (c .if1 .taken)
+    let entry = c .before .before in
+    let bytes = entry .args .b .now in
+    short-count bytes (entry .args .p) (c .if1 .taken)
 
 count-requires : tie.Need-count-requires
 count-requires c κs = search needs
@@ -26,16 +27,18 @@ mul-if2 c = search needs
 
 returns-2 : tie.Need-returns-2
 returns-2 c =
-    let bytes = c .before .before .before .before .args .b .now in
-    short-entries bytes (c .before .before .before .before .args .p) (c .before .count .result) (c .before .before .if1 .left) (c .before .count .ensures .0) (c .if2 .taken)
+    let entry = c .before .before .before .before in
+    let bytes = entry .args .b .now in
+    short-entries bytes (entry .args .p) (c .before .count .result) (c .before .before .if1 .left) (c .before .count .ensures .0) (c .if2 .taken)
 
 add-t5 : tie.Need-add-t5
 add-t5 c = search needs
 
 returns-3 : tie.Need-returns-3
 returns-3 c =
-    let bytes = c .before .before .before .before .args .b .now in
-    section-found bytes (c .before .before .before .before .args .p) (c .before .count .result) (c .before .before .if1 .left) (c .before .count .ensures .0) (c .before .count .ensures .1) (c .if2 .left)
+    let entry = c .before .before .before .before in
+    let bytes = entry .args .b .now in
+    section-found bytes (entry .args .p) (c .before .count .result) (c .before .before .if1 .left) (c .before .count .ensures .0) (c .before .count .ensures .1) (c .if2 .left)
 
 pub section-at-spec : {M : Type 1} → statement M
 section-at-spec =

@@ -32,49 +32,67 @@ loop-holds c =
     (omega arith, passed-none (λ (x : Float). not (shareOk x)) (take n (drop f xs)))
 
 add-real-at : tie.Need-add-real-at Inv-loop μ-loop
-add-real-at c = omega (arith, c .before .before .before .pre .1, c .loop-test .taken, c .before .before .before .pre .0 .few)
+add-real-at c =
+    let entry = c .before .before .before in
+    omega (arith, entry .pre .1, c .loop-test .taken, entry .pre .0 .few)
 
 real-at-requires : tie.Need-real-at-requires Inv-loop μ-loop
-real-at-requires c κs = (c .before .before .before .pre .0, omega (arith, c .before .before .before .pre .1, c .loop-test .taken))
+real-at-requires c κs =
+    let entry = c .before .before .before in
+    (entry .pre .0, omega (arith, entry .pre .1, c .loop-test .taken))
 
 share-ok-requires : tie.Need-share-ok-requires Inv-loop μ-loop
 share-ok-requires c κs = search needs
 
 returns : tie.Need-returns Inv-loop μ-loop
 returns c =
-    let bytes = c .before .before .before .before .before .before .args .b .now in
-    let s = c .before .before .before .before .before .before .args .start in
-    let count = c .before .before .before .before .before .before .args .count in
+    let entry = c .before .before .before .before .before .before in
+    let at-loop = c .before .before .before .before .loop in
+    let at-loop-test = c .before .before .before .loop-test in
+    let at-real-at = c .before .before .real-at in
+    let bytes = entry .args .b .now in
+    let s = entry .args .start in
+    let count = entry .args .count in
     let xs = realsAt bytes s count in
-    let f = c .before .before .before .before .before .before .args .from in
-    let n = c .before .before .before .before .before .before .args .n in
-    part-found (λ (x : Float). not (shareOk x)) xs f n (let l = length-entries bytes s count real in omega (arith, c .before .before .before .before .before .before .pre .1)) zero-f (c .before .before .before .before .loop .i) (c .before .before .before .loop-test .taken) (c .before .before .real-at .result) (c .before .before .real-at .ensures) (ap not (sym (c .before .share-ok .ensures)) ∙ c .if1 .taken) (c .before .before .before .before .loop .inv .1)
+    let f = entry .args .from in
+    let n = entry .args .n in
+    part-found (λ (x : Float). not (shareOk x)) xs f n (let l = length-entries bytes s count real in omega (arith, entry .pre .1)) zero-f (at-loop .i) (at-loop-test .taken) (at-real-at .result) (at-real-at .ensures) (ap not (sym (c .before .share-ok .ensures)) ∙ c .if1 .taken) (at-loop .inv .1)
 
 add-i : tie.Need-add-i Inv-loop μ-loop
-add-i c = omega (arith, c .before .before .before .before .before .before .pre .1, c .before .before .before .loop-test .taken, c .before .before .before .before .before .before .pre .0 .few)
+add-i c =
+    let entry = c .before .before .before .before .before .before in
+    let at-loop-test = c .before .before .before .loop-test in
+    omega (arith, entry .pre .1, at-loop-test .taken, entry .pre .0 .few)
 
 loop-less : tie.Need-loop-less Inv-loop μ-loop
-loop-less c = omega (arith, c .before .before .before .loop-test .taken)
+loop-less c =
+    let at-loop-test = c .before .before .before .loop-test in
+    omega (arith, at-loop-test .taken)
 
 loop-again : tie.Need-loop-again Inv-loop μ-loop
 loop-again c =
-    let bytes = c .before .before .before .before .before .before .args .b .now in
-    let s = c .before .before .before .before .before .before .args .start in
-    let count = c .before .before .before .before .before .before .args .count in
+    let entry = c .before .before .before .before .before .before in
+    let at-loop = c .before .before .before .before .loop in
+    let at-loop-test = c .before .before .before .loop-test in
+    let at-real-at = c .before .before .real-at in
+    let bytes = entry .args .b .now in
+    let s = entry .args .start in
+    let count = entry .args .count in
     let xs = realsAt bytes s count in
-    let f = c .before .before .before .before .before .before .args .from in
-    let n = c .before .before .before .before .before .before .args .n in
-    (omega (arith, c .before .before .before .loop-test .taken), part-more (λ (x : Float). not (shareOk x)) xs f n (let l = length-entries bytes s count real in omega (arith, c .before .before .before .before .before .before .pre .1)) zero-f (c .before .before .before .before .loop .i) (c .before .before .before .loop-test .taken) (c .before .before .real-at .result) (c .before .before .real-at .ensures) (ap not (sym (c .before .share-ok .ensures)) ∙ c .if1 .left) (c .before .before .before .before .loop .inv .1))
+    let f = entry .args .from in
+    let n = entry .args .n in
+    (omega (arith, at-loop-test .taken), part-more (λ (x : Float). not (shareOk x)) xs f n (let l = length-entries bytes s count real in omega (arith, entry .pre .1)) zero-f (at-loop .i) (at-loop-test .taken) (at-real-at .result) (at-real-at .ensures) (ap not (sym (c .before .share-ok .ensures)) ∙ c .if1 .left) (at-loop .inv .1))
 
 returns-2 : tie.Need-returns-2 Inv-loop μ-loop
 returns-2 c =
-    let bytes = c .before .before .before .args .b .now in
-    let s = c .before .before .before .args .start in
-    let count = c .before .before .before .args .count in
+    let entry = c .before .before .before in
+    let bytes = entry .args .b .now in
+    let s = entry .args .start in
+    let count = entry .args .count in
     let xs = realsAt bytes s count in
-    let f = c .before .before .before .args .from in
-    let n = c .before .before .before .args .n in
-    part-none (λ (x : Float). not (shareOk x)) xs f n (let l = length-entries bytes s count real in omega (arith, c .before .before .before .pre .1)) zero-f (c .before .loop .i) (c .loop-test .left) (c .before .loop .inv .1)
+    let f = entry .args .from in
+    let n = entry .args .n in
+    part-none (λ (x : Float). not (shareOk x)) xs f n (let l = length-entries bytes s count real in omega (arith, entry .pre .1)) zero-f (c .before .loop .i) (c .loop-test .left) (c .before .loop .inv .1)
 
 pub bad-share-spec : {M : Type 1} → statement M
 bad-share-spec =

@@ -15,72 +15,78 @@ enum-told c = search needs
 
 first-duplicate-requires : tie.Need-first-duplicate-requires
 first-duplicate-requires c κs =
-    let t = c .before .before .before .args .t in
-    let p = c .before .before .before .args .p in
-    let s = c .before .before .before .args .s in
-    let m = c .before .before .before .args .m in
+    let entry = c .before .before .before in
+    let t = entry .args .t in
+    let p = entry .args .p in
+    let s = entry .args .s in
+    let m = entry .args .m in
     let e = c .enum-told .given .1 in
-    let rm = subst (λ (r : TableRow). Room t (rowIs r) p s m) (e) (c .before .before .before .pre .1) in
-    (c .before .before .before .pre .0, rm .panes)
+    let rm = subst (λ (r : TableRow). Room t (rowIs r) p s m) (e) (entry .pre .1) in
+    (entry .pre .0, rm .panes)
 
 enum-known-row : tie.Need-enum-known-row
 enum-known-row c = search needs
 
 check-tabs-requires : tie.Need-check-tabs-requires
 check-tabs-requires c κs =
-    let t = c .before .before .before .before .args .t in
-    let p = c .before .before .before .before .args .p in
-    let s = c .before .before .before .before .args .s in
-    let m = c .before .before .before .before .args .m in
+    let entry = c .before .before .before .before in
+    let t = entry .args .t in
+    let p = entry .args .p in
+    let s = entry .args .s in
+    let m = entry .args .m in
     let e = c .before .row .given .1 in
-    let rm = subst (λ (r : TableRow). Room t (rowIs r) p s m) (e) (c .before .before .before .before .pre .1) in
-    (c .before .before .before .before .pre .0, rm .panes)
+    let rm = subst (λ (r : TableRow). Room t (rowIs r) p s m) (e) (entry .pre .1) in
+    (entry .pre .0, rm .panes)
 
 enum-known-row-2 : tie.Need-enum-known-row-2
 enum-known-row-2 c = search needs
 
 check-split-requires : tie.Need-check-split-requires
 check-split-requires c κs =
-    let t = c .before .before .before .before .args .t in
-    let p = c .before .before .before .before .args .p in
-    let s = c .before .before .before .before .args .s in
-    let m = c .before .before .before .before .args .m in
+    let entry = c .before .before .before .before in
+    let t = entry .args .t in
+    let p = entry .args .p in
+    let s = entry .args .s in
+    let m = entry .args .m in
     let e = c .before .row2 .given .1 in
-    let rm = subst (λ (r : TableRow). Room t (rowIs r) p s m) (e) (c .before .before .before .before .pre .1) in
-    (c .before .before .before .before .pre .0, rm .shares, rm .minima)
+    let rm = subst (λ (r : TableRow). Room t (rowIs r) p s m) (e) (entry .pre .1) in
+    (entry .pre .0, rm .shares, rm .minima)
 
 returns : tie.Need-returns
 returns c =
-    let bytes = c .before .before .before .before .args .b .now in
-    let t = c .before .before .before .before .args .t in
+    let entry = c .before .before .before .before in
+    let bytes = entry .args .b .now in
+    let t = entry .args .t in
     let table = tableOf bytes t in
-    let p = c .before .before .before .before .args .p in
-    let s = c .before .before .before .before .args .s in
-    let m = c .before .before .before .before .args .m in
+    let p = entry .args .p in
+    let s = entry .args .s in
+    let m = entry .args .m in
     let e = c .before .enum-told .given .1 in
     let to = ap (λ (r : TableRow). rowRefusal (rowIs r) (leftAt table p s m) (take p (panesAt bytes t))) (sym (e)) in
     c .first-duplicate .ensures ∙ to
 
 returns-2 : tie.Need-returns-2
 returns-2 c =
-    let bytes = c .before .before .before .before .before .args .b .now in
-    let t = c .before .before .before .before .before .args .t in
+    let entry = c .before .before .before .before .before in
+    let bytes = entry .args .b .now in
+    let t = entry .args .t in
     let table = tableOf bytes t in
-    let p = c .before .before .before .before .before .args .p in
-    let s = c .before .before .before .before .before .args .s in
-    let m = c .before .before .before .before .before .args .m in
+    let p = entry .args .p in
+    let s = entry .args .s in
+    let m = entry .args .m in
     let e = c .before .before .row .given .1 in
     let to = ap (λ (r : TableRow). rowRefusal (rowIs r) (leftAt table p s m) (take p (panesAt bytes t))) (sym (e)) in
     c .check-tabs .ensures ∙ to
 
 returns-3 : tie.Need-returns-3
 returns-3 c =
-    let bytes = c .before .before .before .before .before .args .b .now in
-    let t = c .before .before .before .before .before .args .t in
+    let entry = c .before .before .before .before .before in
+    let bytes = entry .args .b .now in
+    let t = entry .args .t in
     let table = tableOf bytes t in
-    let p = c .before .before .before .before .before .args .p in
-    let s = c .before .before .before .before .before .args .s in
-    let m = c .before .before .before .before .before .args .m in
+    let p = entry .args .p in
+    let s = entry .args .s in
+    let m = entry .args .m in
     let e = c .before .before .row2 .given .1 in
     let to = ap (λ (r : TableRow). rowRefusal (rowIs r) (leftAt table p s m) (take p (panesAt bytes t))) (sym (e)) in
     c .check-split .ensures ∙ to

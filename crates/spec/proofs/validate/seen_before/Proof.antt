@@ -29,38 +29,49 @@ loop-holds c =
     search-start (eqb x) (take q ps) q (length-take-le q ps (omega (arith, len, c .before .pre .1)))
 
 pane-at-requires : tie.Need-pane-at-requires Inv-loop μ-loop
-pane-at-requires c κs = (c .before .before .before .pre .0, omega (arith, c .before .before .before .pre .1, c .loop-test .taken))
+pane-at-requires c κs =
+    let entry = c .before .before .before in
+    (entry .pre .0, omega (arith, entry .pre .1, c .loop-test .taken))
 
 returns : tie.Need-returns Inv-loop μ-loop
 returns c =
-    let x = c .before .before .before .before .before .args .x in
-    let q = c .before .before .before .before .before .args .q in
-    let bytes = c .before .before .before .before .before .args .b .now in
-    let t = c .before .before .before .before .before .args .t in
+    let entry = c .before .before .before .before .before in
+    let at-loop = c .before .before .before .loop in
+    let at-loop-test = c .before .before .loop-test in
+    let x = entry .args .x in
+    let q = entry .args .q in
+    let bytes = entry .args .b .now in
+    let t = entry .args .t in
     let ps = panesAt bytes t in
-    search-found (eqb x) (take q ps) q (c .before .before .before .loop .j) 0 (c .before .before .before .loop .inv) (c .before .before .loop-test .taken) (sym (eq-eqb _ _ (c .if1 .taken ∙ (c .before .pane-at .ensures ∙ sym (getD-take q ps (c .before .before .before .loop .j) 0 (c .before .before .loop-test .taken))))))
+    search-found (eqb x) (take q ps) q (at-loop .j) 0 (at-loop .inv) (at-loop-test .taken) (sym (eq-eqb _ _ (c .if1 .taken ∙ (c .before .pane-at .ensures ∙ sym (getD-take q ps (at-loop .j) 0 (at-loop-test .taken))))))
 
 add-j : tie.Need-add-j Inv-loop μ-loop
-add-j c = omega (arith, c .before .before .loop-test .taken, c .before .before .before .before .before .pre .1, c .before .before .before .before .before .pre .0 .panes .few)
+add-j c =
+    let entry = c .before .before .before .before .before in
+    omega (arith, c .before .before .loop-test .taken, entry .pre .1, entry .pre .0 .panes .few)
 
 loop-less : tie.Need-loop-less Inv-loop μ-loop
 loop-less c = omega (arith, c .before .before .loop-test .taken)
 
 loop-again : tie.Need-loop-again Inv-loop μ-loop
 loop-again c =
-    let x = c .before .before .before .before .before .args .x in
-    let q = c .before .before .before .before .before .args .q in
-    let bytes = c .before .before .before .before .before .args .b .now in
-    let t = c .before .before .before .before .before .args .t in
+    let entry = c .before .before .before .before .before in
+    let at-loop = c .before .before .before .loop in
+    let at-loop-test = c .before .before .loop-test in
+    let x = entry .args .x in
+    let q = entry .args .q in
+    let bytes = entry .args .b .now in
+    let t = entry .args .t in
     let ps = panesAt bytes t in
-    search-more (eqb x) (take q ps) q (c .before .before .before .loop .j) 0 (c .before .before .before .loop .inv) (c .before .before .loop-test .taken) (sym (ne-eqb _ _ (λ e. c .if1 .left (e ∙ sym (c .before .pane-at .ensures ∙ sym (getD-take q ps (c .before .before .before .loop .j) 0 (c .before .before .loop-test .taken)))))))
+    search-more (eqb x) (take q ps) q (at-loop .j) 0 (at-loop .inv) (at-loop-test .taken) (sym (ne-eqb _ _ (λ e. c .if1 .left (e ∙ sym (c .before .pane-at .ensures ∙ sym (getD-take q ps (at-loop .j) 0 (at-loop-test .taken)))))))
 
 returns-2 : tie.Need-returns-2 Inv-loop μ-loop
 returns-2 c =
-    let x = c .before .before .before .args .x in
-    let q = c .before .before .before .args .q in
-    let bytes = c .before .before .before .args .b .now in
-    let t = c .before .before .before .args .t in
+    let entry = c .before .before .before in
+    let x = entry .args .x in
+    let q = entry .args .q in
+    let bytes = entry .args .b .now in
+    let t = entry .args .t in
     let ps = panesAt bytes t in
     search-end (eqb x) (take q ps) q (c .before .loop .j) (c .before .loop .inv) (c .loop-test .left)
 
