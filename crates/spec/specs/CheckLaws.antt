@@ -1,16 +1,15 @@
 -- Validation, by each test of the code. Assumes nothing.
-use mathlib.Core.Path.{_≡_, refl, sym, ap, subst, _∙_}
-use mathlib.Core.Bool.{Bool, true, false, not, _||_}
+use mathlib.Core.Path.{_≡_, sym, ap, _∙_}
+use mathlib.Core.Bool.{Bool, true, false}
 use mathlib.Core.List.{List, [], _∷_, _++_}
 use mathlib.Core.Option.{Option, none, some}
-use Prim.Native.Nat.{ℕ, zero, suc, _+_, _-_, _*_, _≤_, _<_}
-use native.Mathlib.Numerals.{add-one}
+use Prim.Native.Nat.{ℕ, suc, _+_, _-_, _≤_, _<_}
 use native.Mathlib.Omega.{arith}
 use borrow.Author.Tests.{eq-eqb, ne-eqb, le-leb, lt-leb}
-use lib.Dec.{eqb, leb}
+use lib.Dec.{leb}
 use lib.ListN.{length, getD, take, drop, length-drop}
 use lib.Seq.{drop-cons, take-suc, length-take-le, getD-take, getD-drop}
-use Rattle.rules.specs.Lists.{anyOf, contains, position}
+use Rattle.rules.specs.Lists.{contains, position}
 use Rattle.lists.specs.Find.{Passed, passed-found, passed-more, passed-all}
 use Rattle.rules.specs.Spec.{refuseIf, duplicate, tabsRefusal}
 use Rattle.rules.specs.declared.refusal.Refusal.{Refusal}

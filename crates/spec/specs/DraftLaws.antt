@@ -1,17 +1,17 @@
 -- The draft, by each test of the code. Assumes nothing.
-use mathlib.Core.Path.{_≡_, refl, sym, ap, subst, _∙_}
+use mathlib.Core.Path.{_≡_, refl, sym, ap, _∙_}
 use mathlib.Core.Bool.{Bool, true, false}
-use mathlib.Core.List.{List, [], _∷_, _++_, map}
+use mathlib.Core.List.{List, [], _∷_, map}
 use mathlib.Core.Option.{Option, none, some}
-use Prim.Native.Nat.{ℕ, zero, suc, _+_, _≤_, _<_}
+use Prim.Native.Nat.{ℕ, _≤_, _<_}
 use native.Mathlib.Omega.{arith}
 use borrow.Author.Tests.{lt-ltb, le-ltb}
 use lib.Dec.{ltb}
-use lib.ListN.{length, getD, take, drop, set, replicate, length-replicate}
+use lib.ListN.{length, set, replicate}
 use Rattle.rules.specs.Lists.{anyOf}
-use Rattle.rules.specs.Tree.{Node, empty, emptyGroup, viewSlot, overSlot, arena, tile, view, Arena}
-use Rattle.rules.specs.Table.{Row, paneRow, Table, readTable}
-use Rattle.rules.specs.Spec.{leftOf, validate, Build, build, pushSpec, padded, builtNodes, Built, refusedSpec, wideRow}
+use Rattle.rules.specs.Tree.{empty, emptyGroup, viewSlot, overSlot, arena, tile, view}
+use Rattle.rules.specs.Table.{readTable}
+use Rattle.rules.specs.Spec.{leftOf, validate, Build, padded, builtNodes, refusedSpec, wideRow}
 use Rattle.rules.specs.declared.model.Slot.{Slot}
 use Rattle.rules.specs.declared.refusal.Answer.the-variants.{Accepted}
 use Rattle.rules.specs.declared.refusal.Refusal.{Refusal}
@@ -19,7 +19,7 @@ use Rattle.rules.specs.declared.refusal.Refusal.the-variants.{BadTable, ArenaFu
 use Rattle.spec.specs.Rows.{rowFrom, rowsAt, tableOf, Tabled}
 use Rattle.spec.specs.Entries.{length-entries}
 use Rattle.spec.specs.Push.{Ready, Pushed}
-use Rattle.spec.specs.Slots.{SlotIs, Fit, Slotted, SlotsAre}
+use Rattle.spec.specs.Slots.{SlotIs, Slotted, SlotsAre}
 use Rattle.spec.specs.SlotsLoop.{fit-rows, any-replicate, map-replicate-as, any-set, map-set}
 use Rattle.spec.specs.Draft.{Passed, draftChecked, draftNarrow, draftWithin, draftTabled, draftOf}
 use Rattle.spec.specs.declared.table.Places.{Places}

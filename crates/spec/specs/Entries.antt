@@ -2,8 +2,8 @@
 use mathlib.Core.Path.{_≡_, refl, sym, ap, _∙_}
 use mathlib.Core.Bool.{Bool, true, false, _||_}
 use mathlib.Core.List.{List, [], _∷_, map}
-use mathlib.Core.Option.{Option, none, some}
-use Prim.Native.Nat.{ℕ, zero, suc, _+_, _*_, _≤_, _<_}
+use mathlib.Core.Option.{Option}
+use Prim.Native.Nat.{ℕ, suc, _+_, _*_, _≤_, _<_}
 use native.Mathlib.Numerals.{add-one}
 use native.Mathlib.Omega.{arith}
 use lib.ListN.{length, getD, take, drop, length-map, drop-of-length-le}
@@ -16,9 +16,8 @@ use Rattle.number.specs.Bytes.{leNumber}
 use Rattle.lists.specs.Places.{getD-map}
 use Rattle.spec.specs.Row.{rowOr}
 use Rattle.spec.specs.Sections.{chunksAt}
-use Rattle.spec.specs.Rows.{rowFrom, rowsAt, panesAt, realsAt}
+use Rattle.spec.specs.Rows.{rowFrom, realsAt}
 use Rattle.spec.specs.RowsLaws.{length-chunks, chunk-at}
-use Rattle.spec.specs.declared.table.Places.{Places}
 
 same-number : (l : List ℕ) → leNumber l ≡ littleEndian l
 unfolding leNumber littleEndian

@@ -18,5 +18,6 @@ pub mod PushLoop
 pub mod Slots
 pub mod SlotLaws
 pub mod SlotsLoop
+pub mod LoadLaws
 pub mod Draft
 pub mod DraftLaws

@@ -1,21 +1,19 @@
 -- The recursion's laws: nodes of a run of rows, and of two runs that follow each other. Assumes nothing.
-use mathlib.Core.Path.{_≡_, refl, sym, ap, subst, _∙_}
+use mathlib.Core.Path.{_≡_, refl, sym, ap, _∙_}
 use mathlib.Core.Bool.{Bool, true, false, _||_}
-use mathlib.Core.List.{List, [], _∷_, _++_, map, append-nil, append-assoc}
+use mathlib.Core.List.{List, [], _∷_, _++_, map, append-nil}
 use Prim.Native.Nat.{ℕ, zero, suc, _+_, _-_, _*_, _≤_, _<_}
 use native.Mathlib.Nat.{le-of-suc-le-suc}
-use native.Mathlib.Numerals.{add-one}
 use native.Mathlib.Omega.{arith}
 use borrow.Author.Tests.{ltb-false}
-use lib.ListN.{length, getD, take, drop, set, take-append-drop, length-append, length-drop, length-set, drop-of-length-le}
-use lib.Seq.{slice, slice-empty, slice-cons, length-slice, take-take, drop-drop, drop-cons, drop-set-lt, take-set-le, drop-set-add, take-suc-set, set-append-left, set-append-seam}
+use lib.ListN.{length, getD, take, drop, take-append-drop, drop-of-length-le}
+use lib.Seq.{slice, slice-empty, take-take, drop-drop}
 use Rattle.rules.specs.Lists.{anyOf}
-use Rattle.rules.specs.Tree.{Node, pane, tabs, split, tile, emptyGroup}
+use Rattle.rules.specs.Tree.{Node, split, tile}
 use Rattle.rules.specs.Table.{Row, paneRow, tabsRow, splitRow, childrenUsed}
-use Rattle.rules.specs.Spec.{Left, after, rowPanes, rowShares, rowMinima, wideRow, Build, build, Children, pushed, pushChildren, setSplit, pushRow, pushNext, pushSpec}
-use Rattle.rules.specs.declared.model.TileId.{TileId}
+use Rattle.rules.specs.Spec.{Left, after, rowShares, rowMinima, wideRow, build, pushSpec}
 use Rattle.spec.specs.Bytes.{inner}
-use Rattle.spec.specs.Push.{childrenAt, rowNode, nodesFrom, leftOver, Pushed}
+use Rattle.spec.specs.Push.{rowNode, nodesFrom, leftOver, Pushed}
 
 pub slice-join : {A : Type 0} (a b c : ℕ) (l : List A) → a ≤ b → b ≤ c → slice a c l ≡ slice a b l ++ slice b c l
 slice-join zero b c l h k = sym (ap (λ (x : List _). x ++ drop b (take c l)) (sym (take-take b c l k)) ∙ take-append-drop b (take c l))

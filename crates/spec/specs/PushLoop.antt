@@ -1,17 +1,16 @@
 -- A row's children, one after another: the loop of push_spec, turn by turn. Assumes nothing.
 use mathlib.Core.Path.{_≡_, refl, sym, ap, subst, _∙_}
-use mathlib.Core.Bool.{Bool, true, false, _||_}
+use mathlib.Core.Bool.{false}
 use mathlib.Core.List.{List, [], _∷_, _++_, map, append-nil, append-assoc}
 use Prim.Native.Nat.{ℕ, zero, suc, _+_, _-_, _*_, _≤_, _<_}
 use native.Mathlib.Numerals.{add-one}
 use native.Mathlib.Omega.{arith}
-use lib.ListN.{length, getD, take, drop, set, length-append, length-drop, length-set}
+use lib.ListN.{length, getD, take, drop, set, length-append, length-drop}
 use lib.Seq.{slice, slice-empty, slice-cons, length-slice, take-take, drop-cons, drop-set-lt, take-set-le, drop-set-add, take-suc-set, append-snoc, set-append-seam}
 use Rattle.rules.specs.Lists.{anyOf}
 use Rattle.rules.specs.Tree.{Node, pane, tabs, split, tile, emptyGroup}
 use Rattle.rules.specs.Table.{Row, paneRow, tabsRow, splitRow, childrenUsed}
-use Rattle.rules.specs.Spec.{Left, after, rowPanes, rowShares, rowMinima, wideRow, Build, build, Children, pushed, pushChildren, setSplit, pushRow, pushNext, pushSpec}
-use Rattle.rules.specs.declared.model.TileId.{TileId}
+use Rattle.rules.specs.Spec.{Left, after, rowPanes, rowShares, rowMinima, wideRow, build, Children, pushChildren, setSplit, pushRow, pushNext, pushSpec}
 use Rattle.spec.specs.Bytes.{inner}
 use Rattle.spec.specs.Push.{childrenAt, rowNode, nodesFrom, leftOver, Pushed}
 use Rattle.spec.specs.PushLaws.{slice-join, map-append, left-join, nodes-join, length-nodes, nodes-after, nodes-before, any-drop, any-take}

@@ -1,15 +1,14 @@
 -- The rules of a row by each test of the code. Assumes nothing.
 use mathlib.Core.Path.{_≡_, refl, sym, ap, subst, _∙_}
 use mathlib.Core.Bool.{Bool, true, false, _&&_}
-use mathlib.Core.List.{List, [], _∷_}
+use mathlib.Core.List.{List}
 use mathlib.Core.Option.{Option, none, some}
-use Prim.Native.Nat.{ℕ, zero, suc, _+_, _*_, _≤_, _<_}
+use Prim.Native.Nat.{ℕ, zero, suc, _+_, _≤_, _<_}
 use native.Mathlib.Omega.{arith}
 use lib.Dec.{eqb}
 use borrow.Author.Tests.{eq-eqb, ne-eqb}
 use lib.ListN.{length, getD, take, drop}
-use lib.Seq.{drop-drop, take-take}
-use Rattle.rules.specs.Table.{Row, paneRow, tabsRow, splitRow, littleEndian, numberAt, barOf, axisOf, paneIf, tabsIf, splitIf, rowBy, rowOf}
+use Rattle.rules.specs.Table.{Row, paneRow, tabsRow, splitRow, numberAt, barOf, axisOf, paneIf, tabsIf, splitIf, rowBy, rowOf}
 use Rattle.rules.specs.declared.model.Axis.{Axis}
 use Rattle.rules.specs.declared.model.TabBarPlacement.{TabBarPlacement}
 use Rattle.spec.specs.Row.{readIs, rowOr, Small, ReadAt}

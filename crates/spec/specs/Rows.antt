@@ -1,13 +1,13 @@
 -- A table by its places in the bytes, and the row rules as one test along the rows. Definitions only.
 use mathlib.Core.Path.{_≡_}
-use mathlib.Core.Bool.{Bool, true, false, _&&_}
+use mathlib.Core.Bool.{Bool, false, _&&_}
 use mathlib.Core.List.{List, [], _∷_, map}
 use mathlib.Core.Option.{Option, none, some}
-use Prim.Native.Nat.{ℕ, zero, suc, _+_, _≤_}
+use Prim.Native.Nat.{ℕ, zero, suc, _+_}
 use lib.Dec.{eqb}
-use lib.ListN.{length, drop}
+use lib.ListN.{length}
 use lib.Ieee.{Float}
-use Rattle.rules.specs.Table.{Row, paneRow, rowOf, panesUsed, sharesUsed, minimaUsed, childrenUsed, sumRows, Table, number, real, readTable}
+use Rattle.rules.specs.Table.{Row, rowOf, panesUsed, sharesUsed, minimaUsed, childrenUsed, sumRows, Table, number, real, readTable}
 use Rattle.spec.specs.Row.{rowOr}
 use Rattle.spec.specs.Sections.{chunksAt, Placed}
 use Rattle.spec.specs.declared.table.Places.{Places}

@@ -3,20 +3,17 @@ use mathlib.Core.Path.{_≡_, refl, sym, ap, subst, _∙_}
 use mathlib.Core.Bool.{Bool, true, false, _&&_}
 use mathlib.Core.List.{List, [], _∷_, map}
 use mathlib.Core.Option.{Option, none, some}
-use Prim.Native.Nat.{ℕ, zero, suc, _+_, _-_, _*_, _≤_, _<_}
+use Prim.Native.Nat.{ℕ, zero, suc, _+_, _-_, _*_, _<_}
 use native.Mathlib.Nat.{le-of-suc-le-suc, mul-suc, add-comm}
-use native.Mathlib.Numerals.{add-one}
 use native.Mathlib.Omega.{arith}
 use borrow.Author.Tests.{eqb-true}
 use lib.Dec.{eqb}
-use lib.ListN.{length, getD, take, drop, length-map, drop-of-length-le}
-use lib.Seq.{drop-cons, drop-drop}
-use Rattle.rules.specs.Table.{Row, chunks, rowOf, rowsOf, consRow, panesUsed, sharesUsed, minimaUsed, childrenUsed, sumRows, preorder, Table, number, real, rowsFit, fitting, withRows, readTable}
-use Rattle.spec.specs.Row.{rowOr, readIs, ReadAt, Small, rowIs}
-use Rattle.spec.specs.Sections.{chunksAt, Placed, sectionsAs, SectionsAre}
-use Rattle.spec.specs.Rows.{rowFrom, rowsAt, tableOf, Used, Tabled, TableIs, okBy, okFrom, okRows}
-use Rattle.spec.specs.declared.row.TableRow.{TableRow}
-use Rattle.spec.specs.declared.row.RowRead as RR
+use lib.ListN.{length, getD, take, drop, length-map}
+use lib.Seq.{drop-drop}
+use Rattle.rules.specs.Table.{Row, chunks, rowOf, rowsOf, consRow, panesUsed, sharesUsed, minimaUsed, childrenUsed, sumRows, preorder, Table, number, real, rowsFit, fitting, withRows}
+use Rattle.spec.specs.Row.{rowOr}
+use Rattle.spec.specs.Sections.{chunksAt, SectionsAre}
+use Rattle.spec.specs.Rows.{rowFrom, tableOf, Used, TableIs, okBy, okFrom, okRows}
 use Rattle.spec.specs.declared.table.Places.{Places}
 use Rattle.spec.specs.declared.table.Sections as S
 

@@ -1,18 +1,18 @@
 -- The loop along all rows, turn by turn. Assumes nothing.
-use mathlib.Core.Path.{_≡_, refl, sym, ap, subst, _∙_}
-use mathlib.Core.Bool.{Bool, true, false, _&&_}
-use mathlib.Core.List.{List, [], _∷_}
+use mathlib.Core.Path.{_≡_, refl, sym, ap, _∙_}
+use mathlib.Core.Bool.{Bool, false, _&&_}
+use mathlib.Core.List.{List, []}
 use mathlib.Core.Option.{Option, none, some}
-use Prim.Native.Nat.{ℕ, zero, suc, _+_, _-_, _*_, _≤_, _<_}
+use Prim.Native.Nat.{ℕ, suc, _+_, _-_, _*_, _≤_, _<_}
 use native.Mathlib.Nat.{pos-of-ne-zero}
 use native.Mathlib.Numerals.{add-one}
 use native.Mathlib.Omega.{arith}
 use lib.Dec.{eqb}
-use lib.ListN.{length, getD, take, drop, drop-of-length-le}
+use lib.ListN.{take, drop, drop-of-length-le}
 use lib.Seq.{drop-cons}
 use Rattle.rules.specs.Table.{Row, rowOf, panesUsed, sharesUsed, minimaUsed, childrenUsed}
-use Rattle.spec.specs.Row.{readIs, ReadAt, Small, rowIs}
-use Rattle.spec.specs.Sections.{chunksAt, Placed}
+use Rattle.spec.specs.Row.{ReadAt, rowIs}
+use Rattle.spec.specs.Sections.{chunksAt}
 use Rattle.spec.specs.Rows.{okBy, okFrom, okRows}
 use Rattle.spec.specs.RowsLaws.{length-chunks, chunk-at}
 use Rattle.spec.specs.declared.row.TableRow.{TableRow}

@@ -1,19 +1,17 @@
 -- The chain of sections, by each test of the code. Assumes nothing.
-use mathlib.Core.Path.{_≡_, refl, sym, ap, subst, _∙_}
-use mathlib.Core.Bool.{Bool, true, false}
-use mathlib.Core.List.{List, [], _∷_}
+use mathlib.Core.Path.{_≡_, sym, ap, _∙_}
+use mathlib.Core.Bool.{Bool, true}
+use mathlib.Core.List.{List}
 use mathlib.Core.Option.{Option, none, some}
-use Prim.Native.Nat.{ℕ, zero, suc, _+_, _-_, _*_, _≤_, _<_}
+use Prim.Native.Nat.{ℕ, _+_, _-_, _*_, _≤_, _<_}
 use native.Mathlib.Omega.{arith}
 use borrow.Author.Tests.{le-leb, lt-leb}
 use lib.Dec.{leb}
-use lib.ListN.{length, take, drop, length-drop}
+use lib.ListN.{length, drop, length-drop}
 use lib.Seq.{drop-drop, drop-length, drop-cons}
-use Rattle.rules.specs.Table.{Section, section, sectionBy, sectionOf, chunks, numberAt, rowsOf, Table, afterRows, withPanes, withShares, withMinima, atEnd, withRows, readTable}
-use Rattle.spec.specs.Sections.{chunksAt, held, foundAs, FoundIn, Held, SectionAt, sectionsAs, Placed, SectionsAre}
-use Rattle.spec.specs.declared.table.Found.{Found}
+use Rattle.rules.specs.Table.{section, sectionBy, sectionOf, numberAt, Table, afterRows, withPanes, withShares, withMinima, atEnd, readTable}
+use Rattle.spec.specs.Sections.{chunksAt, held, Held, SectionAt, SectionsAre}
 use Rattle.spec.specs.declared.table.Found.the-variants.{At, Short}
-use Rattle.spec.specs.declared.table.Places.{Places}
 use Rattle.spec.specs.declared.table.Sections as S
 
 module _ (bs : List ℕ) (p : ℕ) where

@@ -1,11 +1,10 @@
 -- The sections as the code has them, places in the bytes, read as those of the rules. Definitions only.
 use mathlib.Core.Path.{_≡_}
-use mathlib.Core.List.{List, map}
+use mathlib.Core.List.{List}
 use mathlib.Core.Option.{Option, none, some}
 use Prim.Native.Nat.{ℕ, _+_, _*_, _≤_, _<_}
 use lib.ListN.{length, drop}
-use Rattle.rules.specs.Table.{Section, section, chunks, Row, rowOf, rowsOf, Table, number, real, withRows, readTable}
-use Rattle.spec.specs.Row.{rowOr}
+use Rattle.rules.specs.Table.{Section, section, chunks, rowsOf, Table, withRows, readTable}
 use Rattle.spec.specs.declared.table.Found.{Found}
 use Rattle.spec.specs.declared.table.Found.the-variants.{At, Short}
 use Rattle.spec.specs.declared.table.Places.{Places}

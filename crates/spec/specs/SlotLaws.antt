@@ -1,16 +1,14 @@
 -- A slot by its lists. Assumes nothing.
-use mathlib.Core.Path.{_≡_, refl, sym, ap, subst, _∙_}
-use mathlib.Core.Bool.{Bool, true, false, _||_}
-use mathlib.Core.List.{List, [], _∷_, _++_, map}
-use Prim.Native.Nat.{ℕ, zero, suc, _+_, _-_, _*_, _≤_, _<_}
+use mathlib.Core.Path.{_≡_, sym, ap, _∙_}
+use mathlib.Core.Bool.{false, _||_}
+use mathlib.Core.List.{List}
+use Prim.Native.Nat.{ℕ, _+_, _-_, _*_, _≤_, _<_}
 use native.Mathlib.Omega.{arith}
 use borrow.Author.Tests.{le-ltb}
 use lib.Dec.{ltb}
-use lib.ListN.{length, getD, take, drop, length-map, length-drop}
-use lib.Seq.{length-take-le, getD-take, getD-drop}
-use lib.Ieee.{Float}
+use lib.ListN.{length, getD, take, drop, length-map}
+use lib.Seq.{getD-take, getD-drop}
 use Rattle.rules.specs.Tree.{tile}
-use Rattle.rules.specs.declared.model.TileId.{TileId}
 use Rattle.lists.specs.Places.{getD-map}
 use Rattle.spec.specs.Push.{childrenAt}
 use Rattle.spec.specs.CheckLaws.{part-length}

@@ -1,5 +1,5 @@
 -- The slots made one after another, and that every row of a table that was checked fits one. Assumes nothing.
-use mathlib.Core.Path.{_≡_, refl, sym, ap, subst, _∙_}
+use mathlib.Core.Path.{_≡_, refl, sym, ap, _∙_}
 use mathlib.Core.Bool.{Bool, true, false, not, _||_}
 use mathlib.Core.List.{List, [], _∷_, _++_, map}
 use mathlib.Core.Option.{Option, none, some}
@@ -14,8 +14,8 @@ use lib.Seq.{slice, slice-cons, take-all, length-take-le, take-suc, drop-drop, g
 use Rattle.rules.specs.Lists.{anyOf, position}
 use Rattle.rules.specs.Numbers.{shareOk, minimumOk}
 use Rattle.rules.specs.Tree.{Node, empty, viewSlot, overSlot}
-use Rattle.rules.specs.Table.{Row, paneRow, tabsRow, splitRow, panesUsed, sharesUsed, minimaUsed, childrenUsed, sumRows, Table}
-use Rattle.rules.specs.Spec.{Left, after, leftOf, padded, wideRow, rowPanes, rowShares, rowMinima, rowRefusal, firstRefusal, validate, refuseIf, refuseAt, splitRefusal}
+use Rattle.rules.specs.Table.{Row, paneRow, tabsRow, splitRow, panesUsed, sharesUsed, minimaUsed, sumRows, Table}
+use Rattle.rules.specs.Spec.{Left, after, leftOf, wideRow, rowPanes, rowRefusal, firstRefusal, validate, refuseIf, refuseAt}
 use Rattle.rules.specs.declared.model.Slot.{Slot}
 use Rattle.rules.specs.declared.refusal.Refusal.{Refusal}
 use Rattle.rules.specs.declared.refusal.Refusal.the-variants.{TooFewSplitChildren, ShareCountMismatch, InvalidShare, TooManySplitConstraints, InvalidSplitConstraint}

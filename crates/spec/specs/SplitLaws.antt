@@ -1,9 +1,9 @@
 -- A split's checks, and the walk of validation. Assumes nothing.
-use mathlib.Core.Path.{_≡_, refl, sym, ap, subst, _∙_}
-use mathlib.Core.Bool.{Bool, true, false, not}
+use mathlib.Core.Path.{_≡_, sym, ap, _∙_}
+use mathlib.Core.Bool.{Bool, not}
 use mathlib.Core.List.{List, [], _∷_, _++_}
 use mathlib.Core.Option.{Option, none, some}
-use Prim.Native.Nat.{ℕ, zero, suc, _+_, _-_, _≤_, _<_}
+use Prim.Native.Nat.{ℕ, suc, _+_, _-_, _≤_, _<_}
 use native.Mathlib.Numerals.{add-one}
 use native.Mathlib.Omega.{arith}
 use borrow.Author.Tests.{eq-eqb, ne-eqb, lt-ltb, le-ltb}
@@ -14,7 +14,7 @@ use lib.Ieee.{Float}
 use Rattle.rules.specs.Numbers.{shareOk, minimumOk}
 use Rattle.rules.specs.Lists.{position}
 use Rattle.rules.specs.Table.{Row, paneRow, panesUsed, sharesUsed, minimaUsed, Table}
-use Rattle.rules.specs.Spec.{Left, after, leftOf, rowPanes, refuseIf, refuseAt, splitRefusal, rowRefusal, firstRefusal, validate}
+use Rattle.rules.specs.Spec.{after, leftOf, rowPanes, refuseIf, refuseAt, splitRefusal, rowRefusal, firstRefusal, validate}
 use Rattle.rules.specs.declared.refusal.Refusal.{Refusal}
 use Rattle.rules.specs.declared.refusal.Refusal.the-variants.{TooFewSplitChildren, ShareCountMismatch, InvalidShare, TooManySplitConstraints, InvalidSplitConstraint}
 use Rattle.spec.specs.Checks.{leftAt}

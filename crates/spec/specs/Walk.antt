@@ -1,14 +1,13 @@
 -- A walk along the rows of a table, with what is taken so far of each section. Assumes nothing.
-use mathlib.Core.Path.{_≡_, refl, sym, ap, subst, _∙_}
-use mathlib.Core.List.{List, [], _∷_}
-use Prim.Native.Nat.{ℕ, zero, suc, _+_, _≤_, _<_}
+use mathlib.Core.Path.{_≡_, sym, ap, _∙_}
+use mathlib.Core.List.{List}
+use Prim.Native.Nat.{ℕ, _+_, _≤_, _<_}
 use native.Mathlib.Numerals.{add-one}
 use native.Mathlib.Omega.{arith}
-use lib.ListN.{length, getD, take, drop}
+use lib.ListN.{length, getD, drop}
 use lib.Seq.{drop-cons, drop-drop}
-use lib.Ieee.{Float}
 use Rattle.rules.specs.Table.{Row, paneRow, panesUsed, sharesUsed, minimaUsed, sumRows, Table, number, real}
-use Rattle.rules.specs.Spec.{Left, after}
+use Rattle.rules.specs.Spec.{after}
 use Rattle.spec.specs.Rows.{rowFrom, tableOf, Used}
 use Rattle.spec.specs.Checks.{leftAt, Room}
 use Rattle.spec.specs.Entries.{length-entries}

@@ -1,5 +1,5 @@
 // The Rust's `validate_spec` and `validate_pane` (spec.rs): rows stand in preorder, so its recursion is a walk along them.
-// The panes seen so far are the first of the panes section, so that none has to be kept.
+// The panes seen so far are the first of the panes section.
 use crate::entry::known_row;
 use crate::entry::pane_at;
 use crate::entry::real_at;
@@ -14,7 +14,7 @@ ghost use mathlib.Core.Path.{_≡_};
 ghost use mathlib.Core.Bool.{not};
 ghost use mathlib.Core.List.{[]};
 ghost use Prim.Native.Nat.{_+_, _≤_};
-ghost use lib.ListN.{take, drop};
+ghost use lib.ListN.{length, take, drop};
 ghost use Rattle.rules.specs.Lists.{contains, position};
 ghost use Rattle.rules.specs.Numbers.{shareOk, minimumOk};
 ghost use Rattle.rules.specs.Spec.{duplicate, tabsRefusal, splitRefusal, rowRefusal, validate, leftOf};
@@ -22,7 +22,7 @@ ghost use Rattle.lists.specs.Find.{placeOf};
 ghost use Rattle.spec.specs.Row.{rowIs};
 ghost use Rattle.spec.specs.Sections.{Held, Placed};
 ghost use Rattle.spec.specs.Rows.{panesAt, realsAt, tableOf, Used};
-ghost use Rattle.spec.specs.Checks.{checkedAs, leftAt, Room};
+ghost use Rattle.spec.specs.Checks.{checkedAs, leftAt, Room, Loaded};
 
 // The Rust's Result<(), TileSpecError>.
 pub enum Checked {
@@ -30,14 +30,30 @@ pub enum Checked {
     Bad(Refusal),
 }
 
+// The panes section, read once: 64 rows of at most 16 have at most 1,024 panes.
+fn load_panes(b: &[u8], t: Places) -> [u64; 1024]
+    requires { ⌜ (Placed (now b) t) × (t .«pane_count» ≤ 1024) ⌝ }
+    ensures { λ r. ⌜ Loaded (now (b .entry)) t r ⌝ }
+{
+    let n = t.pane_count;
+    let mut panes = [0u64; 1024];
+    let mut j = 0usize;
+    while j < n {
+        let x = pane_at(b, t, j);
+        panes[j] = x;
+        j += 1;
+    }
+    panes
+}
+
 // `panes.contains(&pane)`, of the first q.
-fn seen_before(b: &[u8], t: Places, q: usize, x: u64) -> bool
-    requires { ⌜ (Placed (now b) t) × (q ≤ t .«pane_count») ⌝ }
-    ensures { λ r. ⌜ r ≡ contains x (take q (panesAt (now (b .entry)) t)) ⌝ }
+fn seen_before(panes: &[u64; 1024], q: usize, x: u64) -> bool
+    requires { ⌜ (length (now panes) ≡ 1024) × (q ≤ 1024) ⌝ }
+    ensures { λ r. ⌜ r ≡ contains x (take q (now (panes .entry))) ⌝ }
 {
     let mut j = 0usize;
     while j < q {
-        let y = pane_at(b, t, j);
+        let y = panes[j];
         if x == y {
             return true;
         }
@@ -47,14 +63,14 @@ fn seen_before(b: &[u8], t: Places, q: usize, x: u64) -> bool
 }
 
 // `validate_pane` of each of n panes after the first p.
-fn first_duplicate(b: &[u8], t: Places, p: usize, n: usize) -> Checked
-    requires { ⌜ (Placed (now b) t) × (p + n ≤ t .«pane_count») ⌝ }
-    ensures { λ r. ⌜ checkedAs r ≡ duplicate (take p (panesAt (now (b .entry)) t)) (take n (drop p (panesAt (now (b .entry)) t))) ⌝ }
+fn first_duplicate(panes: &[u64; 1024], p: usize, n: usize) -> Checked
+    requires { ⌜ (length (now panes) ≡ 1024) × (p + n ≤ 1024) ⌝ }
+    ensures { λ r. ⌜ checkedAs r ≡ duplicate (take p (now (panes .entry))) (take n (drop p (now (panes .entry)))) ⌝ }
 {
     let mut k = 0usize;
     while k < n {
-        let x = pane_at(b, t, p + k);
-        if seen_before(b, t, p + k, x) {
+        let x = panes[p + k];
+        if seen_before(panes, p + k, x) {
             return Checked::Bad(Refusal::DuplicatePane(x));
         }
         k += 1;
@@ -63,9 +79,9 @@ fn first_duplicate(b: &[u8], t: Places, p: usize, n: usize) -> Checked
 }
 
 // The arm of TileSpec::Tabs.
-fn check_tabs(b: &[u8], t: Places, p: usize, n: usize, active: usize) -> Checked
-    requires { ⌜ (Placed (now b) t) × (p + n ≤ t .«pane_count») ⌝ }
-    ensures { λ r. ⌜ checkedAs r ≡ tabsRefusal active (take n (drop p (panesAt (now (b .entry)) t))) (take p (panesAt (now (b .entry)) t)) ⌝ }
+fn check_tabs(panes: &[u64; 1024], p: usize, n: usize, active: usize) -> Checked
+    requires { ⌜ (length (now panes) ≡ 1024) × (p + n ≤ 1024) ⌝ }
+    ensures { λ r. ⌜ checkedAs r ≡ tabsRefusal active (take n (drop p (now (panes .entry)))) (take p (now (panes .entry))) ⌝ }
 {
     if n == 0 {
         return Checked::Bad(Refusal::EmptyTabs);
@@ -73,7 +89,7 @@ fn check_tabs(b: &[u8], t: Places, p: usize, n: usize, active: usize) -> Checked
     if n <= active {
         return Checked::Bad(Refusal::InvalidActiveTab { active, panes: n });
     }
-    first_duplicate(b, t, p, n)
+    first_duplicate(panes, p, n)
 }
 
 // `shares.iter().position(|share| !share.is_finite() || *share <= 0.0)`, of n of the shares after the first from.
@@ -138,17 +154,25 @@ fn check_split(b: &[u8], t: Places, n: usize, s: usize, ns: usize, m: usize, nm:
 }
 
 // One row, after p panes, s shares and m minima.
-fn check_row(b: &[u8], t: Places, row: TableRow, p: usize, s: usize, m: usize) -> Checked
-    requires { ⌜ (Placed (now b) t) × (Room t (rowIs row) p s m) ⌝ }
+fn check_row(
+    b: &[u8],
+    t: Places,
+    panes: &[u64; 1024],
+    row: TableRow,
+    p: usize,
+    s: usize,
+    m: usize,
+) -> Checked
+    requires { ⌜ (Placed (now b) t) × (Room t (rowIs row) p s m) × (Loaded (now b) t (now panes)) ⌝ }
     ensures { λ r. ⌜ checkedAs r ≡ rowRefusal (rowIs row) (leftAt (tableOf (now (b .entry)) t) p s m) (take p (panesAt (now (b .entry)) t)) ⌝ }
 {
     match row {
-        TableRow::Pane => first_duplicate(b, t, p, 1),
+        TableRow::Pane => first_duplicate(panes, p, 1),
         TableRow::Tabs {
             placement: _,
             count,
             active,
-        } => check_tabs(b, t, p, count, active),
+        } => check_tabs(panes, p, count, active),
         TableRow::Split {
             axis: _,
             count,
@@ -160,9 +184,10 @@ fn check_row(b: &[u8], t: Places, row: TableRow, p: usize, s: usize, m: usize) -
 
 // Every row in preorder: the first refusal is the answer.
 pub fn check_rows(b: &[u8], t: Places) -> Checked
-    requires { ⌜ (Placed (now b) t) × (Used (tableOf (now b) t)) ⌝ }
+    requires { ⌜ (Placed (now b) t) × (Used (tableOf (now b) t)) × (t .«pane_count» ≤ 1024) ⌝ }
     ensures { λ r. ⌜ checkedAs r ≡ validate (tableOf (now (b .entry)) t .rows) (leftOf (tableOf (now (b .entry)) t)) [] ⌝ }
 {
+    let panes = load_panes(b, t);
     let n = t.row_count;
     let mut i = 0usize;
     let mut p = 0usize;
@@ -170,7 +195,7 @@ pub fn check_rows(b: &[u8], t: Places) -> Checked
     let mut m = 0usize;
     while i < n {
         let row = known_row(b, t, i);
-        if let Checked::Bad(e) = check_row(b, t, row, p, s, m) {
+        if let Checked::Bad(e) = check_row(b, t, &panes, row, p, s, m) {
             return Checked::Bad(e);
         }
         p += panes_used(row);

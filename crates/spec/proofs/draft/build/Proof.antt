@@ -2,6 +2,7 @@
 use mathlib.Core.Path.{ap, sym, subst, _∙_}
 use borrow.Author.Needs.{needs}
 use Rattle.rules.specs.Spec.{Built}
+use Rattle.spec.specs.LoadLaws.{panes-few}
 use Rattle.spec.specs.Rows.{TableIs}
 use Rattle.spec.specs.Checks.{checkedAs}
 use Rattle.spec.specs.Draft.{Drafted}
@@ -72,7 +73,9 @@ check-rows-requires c κs =
     let at-t = c .before .before .before .before .before .t in
     let bytes = entry .args .b .now in
     let w = subst (λ (r : Sections). TableIs bytes r) (at-t .given .1) (at-read-table .ensures) in
-    (w .placed, w .used)
+    let t = at-t .given .0 .0 in
+    let g = sym (c .if2 .left) ∙ c .before .too-wide .ensures in
+    (w .placed, w .used, panes-few bytes t (w .used) (c .before .before .if1 .left) (sym g))
 
 enum-known-e : tie.Need-enum-known-e
 enum-known-e c = search needs

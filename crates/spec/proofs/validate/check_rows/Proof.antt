@@ -13,42 +13,47 @@ use Rattle.spec.proofs.validate.check_rows.Statement.{statement}
 use Rattle.spec.proofs.validate.check_rows.Tie as tie
 
 abbrev Inv-loop : tie.InvT-loop
-Inv-loop b t n i₀ p₀ s₀ m₀ i p s m = Along (tableOf b t) i p s m × Checking (tableOf b t) i p s m
+Inv-loop b t panes n i₀ p₀ s₀ m₀ i p s m = Along (tableOf b t) i p s m × Checking (tableOf b t) i p s m
 
 abbrev μ-loop : tie.MeasureT-loop
-μ-loop b t n i₀ p₀ s₀ m₀ i p s m = n - i
+μ-loop b t panes n i₀ p₀ s₀ m₀ i p s m = n - i
+
+load-panes-requires : tie.Need-load-panes-requires Inv-loop μ-loop
+load-panes-requires c κs = (c .before .pre .0, c .before .pre .2)
 
 loop-holds : tie.Need-loop-holds Inv-loop μ-loop
 loop-holds c =
-    let bytes = c .before .args .b .now in
-    let t = c .before .args .t in
+    let entry = c .before .before in
+    let bytes = entry .args .b .now in
+    let t = entry .args .t in
     let table = tableOf bytes t in
-    (along-start table (c .before .pre .1), refl)
+    (along-start table (entry .pre .1), refl)
 
 known-row-requires : tie.Need-known-row-requires Inv-loop μ-loop
 known-row-requires c κs =
-    let entry = c .before .before .before in
+    let entry = c .before .before .before .before in
     (entry .pre .0, c .loop-test .taken)
 
 check-row-requires : tie.Need-check-row-requires Inv-loop μ-loop
 check-row-requires c κs =
-    let entry = c .before .before .before .before in
-    let at-loop = c .before .before .loop in
+    let entry = c .before .before .before .before .before .before in
+    let at-load-panes = c .before .before .before .before .load-panes in
+    let at-loop = c .before .before .before .loop in
     let bytes = entry .args .b .now in
     let t = entry .args .t in
-    let row = rowIs (c .known-row .result) in
-    let room = along-room bytes t (at-loop .i) (at-loop .p) (at-loop .s) (at-loop .m) row (at-loop .inv .0) (c .before .loop-test .taken) (c .known-row .ensures) in
-    (entry .pre .0, room)
+    let row = rowIs (c .before .known-row .result) in
+    let room = along-room bytes t (at-loop .i) (at-loop .p) (at-loop .s) (at-loop .m) row (at-loop .inv .0) (c .before .before .loop-test .taken) (c .before .known-row .ensures) in
+    (entry .pre .0, room, at-load-panes .ensures)
 
 enum-known-e : tie.Need-enum-known-e Inv-loop μ-loop
 enum-known-e c = search needs
 
 returns : tie.Need-returns Inv-loop μ-loop
 returns c =
-    let entry = c .before .before .before .before .before .before .before .before in
-    let at-loop = c .before .before .before .before .before .before .loop in
-    let at-loop-test = c .before .before .before .before .before .loop-test in
-    let at-known-row = c .before .before .before .before .known-row in
+    let entry = c .before .before .before .before .before .before .before .before .before .before in
+    let at-loop = c .before .before .before .before .before .before .before .loop in
+    let at-loop-test = c .before .before .before .before .before .before .loop-test in
+    let at-known-row = c .before .before .before .before .before .known-row in
     let at-check-row = c .before .before .before .check-row in
     let bytes = entry .args .b .now in
     let t = entry .args .t in
@@ -65,10 +70,10 @@ panes-used-requires c κs = search needs
 
 add-p : tie.Need-add-p Inv-loop μ-loop
 add-p c =
-    let entry = c .before .before .before .before .before .before .before .before in
-    let at-loop = c .before .before .before .before .before .before .loop in
-    let at-loop-test = c .before .before .before .before .before .loop-test in
-    let at-known-row = c .before .before .before .before .known-row in
+    let entry = c .before .before .before .before .before .before .before .before .before .before in
+    let at-loop = c .before .before .before .before .before .before .before .loop in
+    let at-loop-test = c .before .before .before .before .before .before .loop-test in
+    let at-known-row = c .before .before .before .before .before .known-row in
     let bytes = entry .args .b .now in
     let t = entry .args .t in
     let row = rowIs (at-known-row .result) in
@@ -80,10 +85,10 @@ shares-used-requires c κs = search needs
 
 add-s : tie.Need-add-s Inv-loop μ-loop
 add-s c =
-    let entry = c .before .before .before .before .before .before .before .before .before in
-    let at-loop = c .before .before .before .before .before .before .before .loop in
-    let at-loop-test = c .before .before .before .before .before .before .loop-test in
-    let at-known-row = c .before .before .before .before .before .known-row in
+    let entry = c .before .before .before .before .before .before .before .before .before .before .before in
+    let at-loop = c .before .before .before .before .before .before .before .before .loop in
+    let at-loop-test = c .before .before .before .before .before .before .before .loop-test in
+    let at-known-row = c .before .before .before .before .before .before .known-row in
     let bytes = entry .args .b .now in
     let t = entry .args .t in
     let row = rowIs (at-known-row .result) in
@@ -95,10 +100,10 @@ minima-used-requires c κs = search needs
 
 add-m : tie.Need-add-m Inv-loop μ-loop
 add-m c =
-    let entry = c .before .before .before .before .before .before .before .before .before .before in
-    let at-loop = c .before .before .before .before .before .before .before .before .loop in
-    let at-loop-test = c .before .before .before .before .before .before .before .loop-test in
-    let at-known-row = c .before .before .before .before .before .before .known-row in
+    let entry = c .before .before .before .before .before .before .before .before .before .before .before .before in
+    let at-loop = c .before .before .before .before .before .before .before .before .before .loop in
+    let at-loop-test = c .before .before .before .before .before .before .before .before .loop-test in
+    let at-known-row = c .before .before .before .before .before .before .before .known-row in
     let bytes = entry .args .b .now in
     let t = entry .args .t in
     let row = rowIs (at-known-row .result) in
@@ -107,21 +112,21 @@ add-m c =
 
 add-i : tie.Need-add-i Inv-loop μ-loop
 add-i c =
-    let entry = c .before .before .before .before .before .before .before .before .before .before in
-    let at-loop-test = c .before .before .before .before .before .before .before .loop-test in
+    let entry = c .before .before .before .before .before .before .before .before .before .before .before .before in
+    let at-loop-test = c .before .before .before .before .before .before .before .before .loop-test in
     omega (arith, at-loop-test .taken, entry .pre .0 .rows .few)
 
 loop-less : tie.Need-loop-less Inv-loop μ-loop
 loop-less c =
-    let at-loop-test = c .before .before .before .before .before .before .before .loop-test in
+    let at-loop-test = c .before .before .before .before .before .before .before .before .loop-test in
     omega (arith, at-loop-test .taken)
 
 loop-again : tie.Need-loop-again Inv-loop μ-loop
 loop-again c =
-    let entry = c .before .before .before .before .before .before .before .before .before .before in
-    let at-loop = c .before .before .before .before .before .before .before .before .loop in
-    let at-loop-test = c .before .before .before .before .before .before .before .loop-test in
-    let at-known-row = c .before .before .before .before .before .before .known-row in
+    let entry = c .before .before .before .before .before .before .before .before .before .before .before .before in
+    let at-loop = c .before .before .before .before .before .before .before .before .before .loop in
+    let at-loop-test = c .before .before .before .before .before .before .before .before .loop-test in
+    let at-known-row = c .before .before .before .before .before .before .before .known-row in
     let at-check-row = c .before .before .before .before .before .check-row in
     let at-enum-told = c .before .before .before .enum-told in
     let at-panes-used = c .before .before .panes-used in
@@ -134,7 +139,7 @@ loop-again c =
 
 returns-2 : tie.Need-returns-2 Inv-loop μ-loop
 returns-2 c =
-    let entry = c .before .before .before in
+    let entry = c .before .before .before .before in
     let bytes = entry .args .b .now in
     let t = entry .args .t in
     let table = tableOf bytes t in
@@ -147,6 +152,7 @@ check-rows-spec =
     (tie.spec
     Inv-loop
     μ-loop
+    load-panes-requires
     loop-holds
     known-row-requires
     check-row-requires

@@ -1,71 +1,66 @@
 -- `spec::validate::first_duplicate`: each pane is looked for among those before it. Assumes nothing.
-use mathlib.Core.Path.{_≡_, sym, _∙_}
+use mathlib.Core.Path.{_≡_, refl, sym, _∙_}
 use Prim.Native.Nat.{_+_, _-_, _≤_}
 use native.Mathlib.Omega.{arith}
-use lib.ListN.{take, drop}
+use lib.ListN.{getD, take, drop}
 use Rattle.rules.specs.Spec.{duplicate}
-use Rattle.rules.specs.Table.{number}
 use Rattle.spec.specs.CheckLaws.{fresh-start, fresh-not, fresh-more, fresh-end}
-use Rattle.spec.specs.Rows.{panesAt}
-use Rattle.spec.specs.Entries.{length-entries}
 use Rattle.spec.proofs.validate.first_duplicate.Statement.{statement}
 use Rattle.spec.proofs.validate.first_duplicate.Tie as tie
 
 abbrev Inv-loop : tie.InvT-loop
-Inv-loop b t p n k₀ k = (k ≤ n) × (duplicate (take (p + k) (panesAt b t)) (take (n - k) (drop (p + k) (panesAt b t))) ≡ duplicate (take p (panesAt b t)) (take n (drop p (panesAt b t))))
+Inv-loop panes p n k₀ k = (k ≤ n) × (duplicate (take (p + k) panes) (take (n - k) (drop (p + k) panes)) ≡ duplicate (take p panes) (take n (drop p panes)))
 
 abbrev μ-loop : tie.MeasureT-loop
-μ-loop b t p n k₀ k = n - k
+μ-loop panes p n k₀ k = n - k
 
 loop-holds : tie.Need-loop-holds Inv-loop μ-loop
 loop-holds c =
-    let bytes = c .before .args .b .now in
-    let t = c .before .args .t in
-    let ps = panesAt bytes t in
-    let p = c .before .args .p in
-    let n = c .before .args .n in
-    let len = length-entries bytes (t .panes) (t .«pane_count») number in
-    (omega arith, fresh-start ps p n (let l = len in omega (arith, c .before .pre .1)) .rest)
+    let ps = c .args .panes .now in
+    let p = c .args .p in
+    let n = c .args .n in
+    (omega arith, fresh-start ps p n (omega (arith, c .pre .0, c .pre .1)) .rest)
 
-add-pane-at : tie.Need-add-pane-at Inv-loop μ-loop
-add-pane-at c =
-    let entry = c .before .before .before in
-    omega (arith, entry .pre .1, c .loop-test .taken, entry .pre .0 .panes .few)
+add-x : tie.Need-add-x Inv-loop μ-loop
+add-x c =
+    let entry = c .before .before in
+    omega (arith, c .loop-test .taken, entry .pre .0, entry .pre .1)
 
-pane-at-requires : tie.Need-pane-at-requires Inv-loop μ-loop
-pane-at-requires c κs =
-    let entry = c .before .before .before in
-    (entry .pre .0, omega (arith, entry .pre .1, c .loop-test .taken))
+mul-x : tie.Need-mul-x Inv-loop μ-loop
+mul-x c =
+    let entry = c .before .before in
+    omega (arith, c .loop-test .taken, entry .pre .0, entry .pre .1)
+
+element-copy-out-x : tie.Need-element-copy-out-x Inv-loop μ-loop
+element-copy-out-x c =
+    let entry = c .before .before in
+    omega (arith, c .loop-test .taken, entry .pre .0, entry .pre .1)
 
 add-seen-before : tie.Need-add-seen-before Inv-loop μ-loop
 add-seen-before c =
-    let entry = c .before .before .before .before in
-    omega (arith, entry .pre .1, c .before .loop-test .taken, entry .pre .0 .panes .few)
+    let entry = c .before .before .before in
+    omega (arith, c .before .loop-test .taken, entry .pre .0, entry .pre .1)
 
 seen-before-requires : tie.Need-seen-before-requires Inv-loop μ-loop
 seen-before-requires c κs =
-    let entry = c .before .before .before .before in
-    (entry .pre .0, omega (arith, entry .pre .1, c .before .loop-test .taken))
+    let entry = c .before .before .before in
+    (entry .pre .0, omega (arith, c .before .loop-test .taken, entry .pre .0, entry .pre .1))
 
 returns : tie.Need-returns Inv-loop μ-loop
 returns c =
-    let entry = c .before .before .before .before .before .before in
+    let entry = c .before .before .before .before .before in
     let at-loop = c .before .before .before .before .loop in
     let at-loop-test = c .before .before .before .loop-test in
-    let at-pane-at = c .before .before .pane-at in
-    let bytes = entry .args .b .now in
-    let t = entry .args .t in
-    let ps = panesAt bytes t in
+    let ps = entry .args .panes .now in
     let p = entry .args .p in
     let n = entry .args .n in
-    let len = length-entries bytes (t .panes) (t .«pane_count») number in
-    fresh-not ps p n (let l = len in omega (arith, entry .pre .1)) (at-loop .k) (record { within = at-loop .inv .0; rest = at-loop .inv .1 }) (at-loop-test .taken) (at-pane-at .result) (at-pane-at .ensures) (sym (c .if1 .taken) ∙ c .before .seen-before .ensures)
+    fresh-not ps p n (omega (arith, entry .pre .0, entry .pre .1)) (at-loop .k) (record { within = at-loop .inv .0; rest = at-loop .inv .1 }) (at-loop-test .taken) (getD ps (p + at-loop .k) 0) refl (sym (c .if1 .taken) ∙ c .before .seen-before .ensures)
 
 add-k : tie.Need-add-k Inv-loop μ-loop
 add-k c =
-    let entry = c .before .before .before .before .before .before in
+    let entry = c .before .before .before .before .before in
     let at-loop-test = c .before .before .before .loop-test in
-    omega (arith, entry .pre .1, at-loop-test .taken, entry .pre .0 .panes .few)
+    omega (arith, at-loop-test .taken, entry .pre .0, entry .pre .1)
 
 loop-less : tie.Need-loop-less Inv-loop μ-loop
 loop-less c =
@@ -74,28 +69,21 @@ loop-less c =
 
 loop-again : tie.Need-loop-again Inv-loop μ-loop
 loop-again c =
-    let entry = c .before .before .before .before .before .before in
+    let entry = c .before .before .before .before .before in
     let at-loop = c .before .before .before .before .loop in
     let at-loop-test = c .before .before .before .loop-test in
-    let at-pane-at = c .before .before .pane-at in
-    let bytes = entry .args .b .now in
-    let t = entry .args .t in
-    let ps = panesAt bytes t in
+    let ps = entry .args .panes .now in
     let p = entry .args .p in
     let n = entry .args .n in
-    let len = length-entries bytes (t .panes) (t .«pane_count») number in
-    (omega (arith, at-loop-test .taken), fresh-more ps p n (let l = len in omega (arith, entry .pre .1)) (at-loop .k) (record { within = at-loop .inv .0; rest = at-loop .inv .1 }) (at-loop-test .taken) (at-pane-at .result) (at-pane-at .ensures) (sym (c .if1 .left) ∙ c .before .seen-before .ensures) .rest)
+    (omega (arith, at-loop-test .taken), fresh-more ps p n (omega (arith, entry .pre .0, entry .pre .1)) (at-loop .k) (record { within = at-loop .inv .0; rest = at-loop .inv .1 }) (at-loop-test .taken) (getD ps (p + at-loop .k) 0) refl (sym (c .if1 .left) ∙ c .before .seen-before .ensures) .rest)
 
 returns-2 : tie.Need-returns-2 Inv-loop μ-loop
 returns-2 c =
-    let entry = c .before .before .before in
-    let bytes = entry .args .b .now in
-    let t = entry .args .t in
-    let ps = panesAt bytes t in
+    let entry = c .before .before in
+    let ps = entry .args .panes .now in
     let p = entry .args .p in
     let n = entry .args .n in
-    let len = length-entries bytes (t .panes) (t .«pane_count») number in
-    fresh-end ps p n (let l = len in omega (arith, entry .pre .1)) (c .before .loop .k) (record { within = c .before .loop .inv .0; rest = c .before .loop .inv .1 }) (c .loop-test .left)
+    fresh-end ps p n (omega (arith, entry .pre .0, entry .pre .1)) (c .before .loop .k) (record { within = c .before .loop .inv .0; rest = c .before .loop .inv .1 }) (c .loop-test .left)
 
 pub first-duplicate-spec : {M : Type 1} → statement M
 first-duplicate-spec =
@@ -104,8 +92,9 @@ first-duplicate-spec =
     Inv-loop
     μ-loop
     loop-holds
-    add-pane-at
-    pane-at-requires
+    add-x
+    mul-x
+    element-copy-out-x
     add-seen-before
     seen-before-requires
     returns

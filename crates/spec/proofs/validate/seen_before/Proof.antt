@@ -6,73 +6,67 @@ use borrow.Author.Tests.{eq-eqb, ne-eqb}
 use lib.Dec.{eqb}
 use lib.ListN.{take}
 use lib.Seq.{getD-take, length-take-le}
-use Rattle.rules.specs.Table.{number}
-use Rattle.spec.specs.Rows.{panesAt}
-use Rattle.spec.specs.Entries.{length-entries, Searching, search-start, search-found, search-more, search-end}
+use Rattle.spec.specs.Entries.{Searching, search-start, search-found, search-more, search-end}
 use Rattle.spec.proofs.validate.seen_before.Statement.{statement}
 use Rattle.spec.proofs.validate.seen_before.Tie as tie
 
 abbrev Inv-loop : tie.InvT-loop
-Inv-loop b t q x j₀ j = Searching (eqb x) (take q (panesAt b t)) q j
+Inv-loop panes q x j₀ j = Searching (eqb x) (take q panes) q j
 
 abbrev μ-loop : tie.MeasureT-loop
-μ-loop b t q x j₀ j = q - j
+μ-loop panes q x j₀ j = q - j
 
 loop-holds : tie.Need-loop-holds Inv-loop μ-loop
 loop-holds c =
-    let x = c .before .args .x in
-    let q = c .before .args .q in
-    let bytes = c .before .args .b .now in
-    let t = c .before .args .t in
-    let ps = panesAt bytes t in
-    let len = length-entries bytes (t .panes) (t .«pane_count») number in
-    search-start (eqb x) (take q ps) q (length-take-le q ps (omega (arith, len, c .before .pre .1)))
+    let x = c .args .x in
+    let q = c .args .q in
+    let ps = c .args .panes .now in
+    search-start (eqb x) (take q ps) q (length-take-le q ps (omega (arith, c .pre .0, c .pre .1)))
 
-pane-at-requires : tie.Need-pane-at-requires Inv-loop μ-loop
-pane-at-requires c κs =
-    let entry = c .before .before .before in
-    (entry .pre .0, omega (arith, entry .pre .1, c .loop-test .taken))
+mul-y : tie.Need-mul-y Inv-loop μ-loop
+mul-y c =
+    let entry = c .before .before in
+    omega (arith, c .loop-test .taken, entry .pre .0, entry .pre .1)
+
+element-copy-out-y : tie.Need-element-copy-out-y Inv-loop μ-loop
+element-copy-out-y c =
+    let entry = c .before .before in
+    omega (arith, c .loop-test .taken, entry .pre .0, entry .pre .1)
 
 returns : tie.Need-returns Inv-loop μ-loop
 returns c =
-    let entry = c .before .before .before .before .before in
+    let entry = c .before .before .before .before in
     let at-loop = c .before .before .before .loop in
     let at-loop-test = c .before .before .loop-test in
     let x = entry .args .x in
     let q = entry .args .q in
-    let bytes = entry .args .b .now in
-    let t = entry .args .t in
-    let ps = panesAt bytes t in
-    search-found (eqb x) (take q ps) q (at-loop .j) 0 (at-loop .inv) (at-loop-test .taken) (sym (eq-eqb _ _ (c .if1 .taken ∙ (c .before .pane-at .ensures ∙ sym (getD-take q ps (at-loop .j) 0 (at-loop-test .taken))))))
+    let ps = entry .args .panes .now in
+    search-found (eqb x) (take q ps) q (at-loop .j) 0 (at-loop .inv) (at-loop-test .taken) (sym (eq-eqb _ _ (c .if1 .taken ∙ sym (getD-take q ps (at-loop .j) 0 (at-loop-test .taken)))))
 
 add-j : tie.Need-add-j Inv-loop μ-loop
 add-j c =
-    let entry = c .before .before .before .before .before in
-    omega (arith, c .before .before .loop-test .taken, entry .pre .1, entry .pre .0 .panes .few)
+    let entry = c .before .before .before .before in
+    omega (arith, c .before .before .loop-test .taken, entry .pre .0, entry .pre .1)
 
 loop-less : tie.Need-loop-less Inv-loop μ-loop
 loop-less c = omega (arith, c .before .before .loop-test .taken)
 
 loop-again : tie.Need-loop-again Inv-loop μ-loop
 loop-again c =
-    let entry = c .before .before .before .before .before in
+    let entry = c .before .before .before .before in
     let at-loop = c .before .before .before .loop in
     let at-loop-test = c .before .before .loop-test in
     let x = entry .args .x in
     let q = entry .args .q in
-    let bytes = entry .args .b .now in
-    let t = entry .args .t in
-    let ps = panesAt bytes t in
-    search-more (eqb x) (take q ps) q (at-loop .j) 0 (at-loop .inv) (at-loop-test .taken) (sym (ne-eqb _ _ (λ e. c .if1 .left (e ∙ sym (c .before .pane-at .ensures ∙ sym (getD-take q ps (at-loop .j) 0 (at-loop-test .taken)))))))
+    let ps = entry .args .panes .now in
+    search-more (eqb x) (take q ps) q (at-loop .j) 0 (at-loop .inv) (at-loop-test .taken) (sym (ne-eqb _ _ (λ e. c .if1 .left (e ∙ getD-take q ps (at-loop .j) 0 (at-loop-test .taken)))))
 
 returns-2 : tie.Need-returns-2 Inv-loop μ-loop
 returns-2 c =
-    let entry = c .before .before .before in
+    let entry = c .before .before in
     let x = entry .args .x in
     let q = entry .args .q in
-    let bytes = entry .args .b .now in
-    let t = entry .args .t in
-    let ps = panesAt bytes t in
+    let ps = entry .args .panes .now in
     search-end (eqb x) (take q ps) q (c .before .loop .j) (c .before .loop .inv) (c .loop-test .left)
 
 pub seen-before-spec : {M : Type 1} → statement M
@@ -82,7 +76,8 @@ seen-before-spec =
     Inv-loop
     μ-loop
     loop-holds
-    pane-at-requires
+    mul-y
+    element-copy-out-y
     returns
     add-j
     loop-less
