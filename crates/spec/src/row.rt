@@ -5,8 +5,8 @@ use rules::model::Axis;
 use rules::model::TabBarPlacement;
 ghost use mathlib.Core.Path.{_≡_};
 ghost use Prim.Native.Nat.{_+_, _≤_, _<_};
-ghost use lib.ListN.{length, take, drop};
-ghost use Rattle.rules.specs.Table.{rowOf, rowBy, panesUsed, sharesUsed, minimaUsed, childrenUsed, barOf, axisOf};
+ghost use lib.ListN.{length};
+ghost use Rattle.rules.specs.Table.{rowBy, panesUsed, sharesUsed, minimaUsed, childrenUsed, barOf, axisOf};
 ghost use Rattle.rules.specs.Spec.{wideRow};
 ghost use Rattle.spec.specs.Row.{rowIs, readIs, barIs, axisIs, ReadAt};
 

@@ -1,11 +1,7 @@
 // A row's slot: its lists copied out of the sections, and its children's numbers out of what push_spec wrote.
-use crate::entry::known_row;
 use crate::entry::pane_at;
 use crate::entry::real_at;
 use crate::row::TableRow;
-use crate::row::minima_used;
-use crate::row::panes_used;
-use crate::row::shares_used;
 use crate::table::Places;
 use rules::model::Axis;
 use rules::model::Ids;
