@@ -1,5 +1,5 @@
 -- A spec's answer and tree before repair: the rules' fromSpec with everything but `normalize`. Definitions, and how the rules go on from there.
-use mathlib.Core.Path.{_≡_, refl}
+use mathlib.Core.Path.{_≡_, refl, sym, _∙_}
 use mathlib.Core.Bool.{Bool, true, false}
 use mathlib.Core.List.{List, []}
 use mathlib.Core.Option.{Option, none, some}
@@ -76,3 +76,7 @@ tabled-as (some t) = within-as (ltb 64 (length (t .rows))) t
 pub from-draft : (bs : List ℕ) → fromSpec bs ≡ repaired (draftOf bs)
 unfolding fromSpec draftOf
 from-draft bs = tabled-as (readTable bs)
+
+-- two answers that meet the contract of `build` agree: the same answer with the same details, and trees of one view
+pub drafted-same : {a a′ : Answer} {t t′ : TileTree} {b : Built} → Drafted a t b → Drafted a′ t′ b → (a ≡ a′) × (view t ≡ view t′)
+drafted-same x y = (x .says ∙ sym (y .says), x .holds ∙ sym (y .holds))
