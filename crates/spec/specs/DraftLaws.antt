@@ -1,0 +1,96 @@
+-- The draft, by each test of the code. Assumes nothing.
+use mathlib.Core.Path.{_≡_, refl, sym, ap, _∙_}
+use mathlib.Core.Bool.{Bool, true, false}
+use mathlib.Core.List.{List, [], _∷_, map}
+use mathlib.Core.Option.{Option, none, some}
+use Prim.Native.Nat.{ℕ, _≤_, _<_}
+use native.Mathlib.Omega.{arith}
+use borrow.Author.Tests.{lt-ltb, le-ltb}
+use lib.Dec.{ltb}
+use lib.ListN.{length, set, replicate}
+use Rattle.rules.specs.Lists.{anyOf}
+use Rattle.rules.specs.Tree.{empty, emptyGroup, viewSlot, overSlot, arena, tile, view}
+use Rattle.rules.specs.Table.{readTable}
+use Rattle.rules.specs.Spec.{leftOf, validate, Build, padded, builtNodes, refusedSpec, wideRow}
+use Rattle.rules.specs.declared.model.Slot.{Slot}
+use Rattle.rules.specs.declared.refusal.Answer.the-variants.{Accepted}
+use Rattle.rules.specs.declared.refusal.Refusal.{Refusal}
+use Rattle.rules.specs.declared.refusal.Refusal.the-variants.{BadTable, ArenaFull, TooWide}
+use Rattle.spec.specs.Rows.{rowFrom, rowsAt, tableOf, Tabled}
+use Rattle.spec.specs.Entries.{length-entries}
+use Rattle.spec.specs.Push.{Ready, Pushed}
+use Rattle.spec.specs.Slots.{SlotIs, Slotted, SlotsAre}
+use Rattle.spec.specs.SlotsLoop.{fit-rows, any-replicate, map-replicate-as, any-set, map-set}
+use Rattle.spec.specs.Draft.{Passed, draftChecked, draftNarrow, draftWithin, draftTabled, draftOf}
+use Rattle.spec.specs.declared.table.Places.{Places}
+
+-- ---- the refused tree
+
+pub refused-nodes : (x g : Slot) → SlotIs x empty → SlotIs g emptyGroup → map viewSlot (set (replicate 64 x) 0 g) ≡ emptyGroup ∷ replicate 63 empty
+refused-nodes x g e h = map-set viewSlot (replicate 64 x) 0 g ∙ (λ j. set (map-replicate-as viewSlot 64 x empty (e .view) j) 0 (h .view j))
+
+pub refused-fits : (x g : Slot) → SlotIs x empty → SlotIs g emptyGroup → anyOf overSlot (set (replicate 64 x) 0 g) ≡ false
+refused-fits x g e h = any-set overSlot (replicate 64 x) 0 g (any-replicate overSlot 64 x (e .fits)) (h .fits)
+
+-- ---- the built tree
+
+module _ (bs : List ℕ) (t : Places) (w : Passed bs t) where
+  rows-size : length (tableOf bs t .rows) ≡ t .«row_count»
+  rows-size = length-entries bs (t .rows) (t .«row_count») rowFrom
+
+  pub ready : (kids : List ℕ) → length kids ≡ 1024 → Ready bs t kids 0
+  ready kids e = record { placed = w .tabled .placed; few = w .few; narrow = w .narrow; within = omega arith; size = e }
+
+  pub slotted : (kids₀ kids : List ℕ) (end : ℕ) → Pushed (rowsAt bs t) kids₀ kids 0 end → Slotted bs t kids end
+  slotted kids₀ kids end p =
+      let s : length (tableOf bs t .rows) ≡ t .«row_count» = rows-size in
+      let h : end ≤ length (tableOf bs t .rows) = p .high in
+      record {
+        placed = w .tabled .placed;
+        used = w .tabled .used;
+        fit = λ i g. fit-rows (tableOf bs t .rows) (leftOf (tableOf bs t)) [] (w .checked) (w .narrow) (omega (arith, w .tabled .used .shares)) (omega (arith, w .tabled .used .minima)) i (omega arith);
+        few = w .few;
+        within = omega arith;
+        size = p .size;
+      }
+
+  pub built-nodes : (kids₀ kids : List ℕ) (end : ℕ) (slots : List Slot) → Pushed (rowsAt bs t) kids₀ kids 0 end → SlotsAre bs t kids end slots → map viewSlot slots ≡ builtNodes (tableOf bs t)
+  built-nodes kids₀ kids end slots p s =
+      s .view ∙ sym (ap (λ (b : Build). padded (b .nodes)) (p .same (length (tableOf bs t .rows)) (leftOf (tableOf bs t)) [] refl (omega arith)))
+
+-- ---- the answers in their order
+
+pub draft-bad : (bs : List ℕ) → readTable bs ≡ none → refusedSpec BadTable ≡ draftOf bs
+unfolding draftOf
+draft-bad bs e = sym (ap draftTabled e)
+
+module _ (bs : List ℕ) (t : Places) (w : Tabled bs t) where
+  size : length (tableOf bs t .rows) ≡ t .«row_count»
+  size = length-entries bs (t .rows) (t .«row_count») rowFrom
+
+  one : draftOf bs ≡ draftWithin (ltb 64 (length (tableOf bs t .rows))) (tableOf bs t)
+  unfolding draftOf
+  one = ap draftTabled (w .read)
+
+  pub draft-full : 64 < t .«row_count» → refusedSpec ArenaFull ≡ draftOf bs
+  draft-full h = sym (one ∙ ap (λ (b : Bool). draftWithin b (tableOf bs t)) (lt-ltb 64 (length (tableOf bs t .rows)) (omega (arith, size))))
+
+  module _ (h : t .«row_count» ≤ 64) where
+    two : draftOf bs ≡ draftNarrow (anyOf wideRow (tableOf bs t .rows)) (tableOf bs t)
+    two = one ∙ ap (λ (b : Bool). draftWithin b (tableOf bs t)) (le-ltb 64 (length (tableOf bs t .rows)) (omega (arith, size)))
+
+    pub draft-wide : true ≡ anyOf wideRow (tableOf bs t .rows) → refusedSpec TooWide ≡ draftOf bs
+    draft-wide e = ap (λ (b : Bool). draftNarrow b (tableOf bs t)) e ∙ sym two
+
+    module _ (g : false ≡ anyOf wideRow (tableOf bs t .rows)) where
+      three : draftOf bs ≡ draftChecked (validate (tableOf bs t .rows) (leftOf (tableOf bs t)) []) (tableOf bs t)
+      three = two ∙ sym (ap (λ (b : Bool). draftNarrow b (tableOf bs t)) g)
+
+      pub draft-refused : (x : Refusal) → some x ≡ validate (tableOf bs t .rows) (leftOf (tableOf bs t)) [] → refusedSpec x ≡ draftOf bs
+      draft-refused x e = ap (λ (o : Option Refusal). draftChecked o (tableOf bs t)) e ∙ sym three
+
+      pub draft-built : none ≡ validate (tableOf bs t .rows) (leftOf (tableOf bs t)) [] → draftOf bs ≡ record { answer = Accepted; tree = arena (tile 0) 0 (builtNodes (tableOf bs t)) }
+      draft-built e = three ∙ sym (ap (λ (o : Option Refusal). draftChecked o (tableOf bs t)) e)
+
+      pub passed : none ≡ validate (tableOf bs t .rows) (leftOf (tableOf bs t)) [] → Passed bs t
+      passed e = record { tabled = w; few = h; narrow = sym g; checked = sym e }
