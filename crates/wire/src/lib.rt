@@ -1,5 +1,6 @@
 // Reading the stored answers that docs/VECTORS.md describes, from a slice and a place in it. Past the end everything reads as zero.
 pub mod input;
+pub mod same;
 pub mod tree;
 
 use rules::model::Reals;
