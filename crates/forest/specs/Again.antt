@@ -119,7 +119,7 @@ kids-step again a e es r u q m =
     ∙ ap (λ (b : Bool). kidsFrom again a es (placeBy b e (e .child) (nodeAt (u .state .nodes) (e .child)) r u)) m
 
 -- to a tile that is in range and not claimed, by what stands in its slot
-tile-by : (n : ℕ) (i : TileId) (w : Work) (x : Node) → i .slot < 64 → getD (w .state .claimed) (i .slot) false ≡ false → nodeAt (w .state .nodes) i ≡ x
+pub tile-by : (n : ℕ) (i : TileId) (w : Work) (x : Node) → i .slot < 64 → getD (w .state .claimed) (i .slot) false ≡ false → nodeAt (w .state .nodes) i ≡ x
     → normalizeNode (suc n) i w ≡ byNode x (normalizeNode n) i w
 unfolding normalizeNode tileStep
 tile-by n i w x h e is =

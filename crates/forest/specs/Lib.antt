@@ -11,3 +11,7 @@ pub mod Actions
 pub mod Fuel
 pub mod Wide
 pub mod Sweep
+pub mod Equal
+pub mod Quiet
+pub mod SoundIs
+pub mod Depth

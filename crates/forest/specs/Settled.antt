@@ -67,13 +67,13 @@ sweep-empty : (b : Bool) → sweepBy b empty ≡ empty
 sweep-empty true = refl
 sweep-empty false = refl
 
-swept-at : (xs : List TileId) (ns : List Node) (k i j : ℕ) → j ≡ k + i → getD (swept k xs ns) i empty ≡ sweepBy (isReached j xs) (getD ns i empty)
+pub swept-at : (xs : List TileId) (ns : List Node) (k i j : ℕ) → j ≡ k + i → getD (swept k xs ns) i empty ≡ sweepBy (isReached j xs) (getD ns i empty)
 unfolding swept
 swept-at xs [] k i j e = sym (sweep-empty (isReached j xs))
 swept-at xs (n ∷ ns) k zero j e = ap (λ (x : ℕ). sweepBy (isReached x xs) n) (let q : k ≡ j = omega arith in q)
 swept-at xs (n ∷ ns) k (suc i) j e = swept-at xs ns (suc k) i j (omega arith)
 
-swept-length : (k : ℕ) (xs : List TileId) (ns : List Node) → length (swept k xs ns) ≡ length ns
+pub swept-length : (k : ℕ) (xs : List TileId) (ns : List Node) → length (swept k xs ns) ≡ length ns
 unfolding swept
 swept-length k xs [] = refl
 swept-length k xs (n ∷ ns) = ap suc (swept-length (suc k) xs ns)

@@ -28,15 +28,15 @@ use Rattle.forest.specs.Reach.{occupied-reached}
 -- ---- a tree equals itself
 
 module _ {A : Type 0} (same : A → A → Bool) (self : (x : A) → same x x ≡ true) where
-  list-self : (xs : List A) → sameList same xs xs ≡ true
+  pub list-self : (xs : List A) → sameList same xs xs ≡ true
   unfolding sameList
   list-self [] = refl
   list-self (x ∷ xs) = rw (self x) (list-self xs)
 
-number-self : (n : ℕ) → eqb n n ≡ true
+pub number-self : (n : ℕ) → eqb n n ≡ true
 number-self n = eq-eqb n n refl
 
-tile-self : (i : TileId) → sameTile i i ≡ true
+pub tile-self : (i : TileId) → sameTile i i ≡ true
 tile-self i = number-self (i .slot)
 
 node-self : (n : Node) → sameNode n n ≡ true

@@ -21,7 +21,7 @@ use Rattle.rules.specs.declared.model.Axis.{Axis}
 use Rattle.forest.specs.Lists.{All, never, all-map, all-append}
 use Rattle.forest.specs.Codec.{stored, reshared, Least, long-children}
 use Rattle.forest.specs.Forest.{Forest, nil, leaf, node, roots, tiles, _⧺_, reshare, wide, broad, wide-append, wide-reshare, Set, Holds, Same, roots-append, roots-reshare, all-roots, set-same}
-use Rattle.forest.specs.Grow.{Good, Grown, Left, nothing, group, branch, keptOf, stem, Keeps, Works, Placed, placed, grown-chain, good-after, kids-keep, claimed, split-run, grown-own, grown-like, grown-many, tile-keeps}
+use Rattle.forest.specs.Grow.{Good, Grown, Left, nothing, group, branch, keptOf, stem, Keeps, Works, Placed, placed, grown-none, grown-chain, good-after, kid-keeps, kids-keep, claimed, split-run, grown-own, grown-like, grown-many, tile-keeps}
 use Rattle.forest.specs.Settled.{Tidy, Settled, tidied}
 
 -- ---- tests
@@ -66,11 +66,14 @@ broad-after f g e = go (or-either (ltb 16 (length (roots g))) (wide g) e)
 
 -- ---- it goes on to the end of the children
 
-module _ (again : TileId → Work → Out) (g : Works again) (a : Axis) (w : State) where
-  -- what was kept before, and what a run adds
-  abbrev pub Before : Run → Type 0
-  Before r = (f : Forest) × (r .list ≡ roots f) × Grown w (r .left .state) f × All (Set (r .left .state .nodes) a) (roots f)
+-- what a run has kept so far, from the state w
+abbrev pub Before : State → Axis → Run → Type 0
+Before w a r = (f : Forest) × (r .list ≡ roots f) × Grown w (r .left .state) f × All (Set (r .left .state .nodes) a) (roots f)
 
+pub before-start : (w : State) (a : Axis) (b : Bool) (u : Work) → u .state ≡ w → Before w a (run [] b u)
+before-start w a b u e = (nil, refl, subst (λ (v : State). Grown w v nil) (sym e) (grown-none w), tt)
+
+module _ (again : TileId → Work → Out) (g : Works again) (a : Axis) (w : State) where
   -- the forest before, in the state after what was added
   kept-set : (f : Forest) (v u : State) (h : Forest) → Grown w v f → Grown v u h → All (Set (v .nodes) a) (roots f) → All (Set (u .nodes) a) (roots f)
   kept-set f v u h B B′ s = set-same (v .nodes) (u .nodes) a (roots f) (all-roots (Same (v .nodes) (u .nodes)) f (all-map (λ j k. B′ .keep j k .1) (tiles f) (B .taken))) s
@@ -86,8 +89,19 @@ module _ (again : TileId → Work → Out) (g : Works again) (a : Axis) (w : Sta
         broad-append f f′ q,
       )
 
+  -- one child more
+  pub before-more : (e : Entry) (r : Run) → Good w → Least e → Before w a r → Before w a (placeOut a e r (again (e .child) (r .left)))
+  before-more e r good cl (f, p, B, s) =
+      let t = placeOut a e r (again (e .child) (r .left)) in
+      let (f′, p′, B′, s′) = kid-keeps again g a e r (good-after w (r .left .state) f good B) cl in (
+        f ⧺ f′,
+        p′ ∙ ap (λ (l : List Entry). l ++ roots f′) p ∙ sym (roots-append f f′),
+        grown-chain w (r .left .state) (t .left .state) f f′ B B′,
+        rw (roots-append f f′) (all-append (Set (t .left .state .nodes) a) (roots f) (roots f′) (kept-set f (r .left .state) (t .left .state) f′ B B′ s) s′),
+      )
+
   -- a child that is swollen makes the run bulge
-  pub kid-bulge : (e : Entry) (r : Run) → Least e → Before r → Swollen (r .left .state) (again (e .child) (r .left)) → Bulging w a (placeOut a e r (again (e .child) (r .left)))
+  pub kid-bulge : (e : Entry) (r : Run) → Least e → Before w a r → Swollen (r .left .state) (again (e .child) (r .left)) → Bulging w a (placeOut a e r (again (e .child) (r .left)))
   kid-bulge e r cl (f, p, B, s) (l, q, A, wd) =
       let o = again (e .child) (r .left) in
       let t = place a e (keptOf l) r (o .work) in
@@ -101,7 +115,7 @@ module _ (again : TileId → Work → Out) (g : Works again) (a : Axis) (w : Sta
       )
 
   -- so does a list that passes 16
-  pub long-bulge : (r : Run) → Before r → 16 < length (r .list) → Bulging w a r
+  pub long-bulge : (r : Run) → Before w a r → 16 < length (r .list) → Bulging w a r
   long-bulge r (f, p, B, s) h = (f, p, B, s, or-left (ltb 16 (length (roots f))) (wide f) (lt-ltb 16 (length (roots f)) (omega (arith, ap length p))))
 
 -- ---- and the split is swollen

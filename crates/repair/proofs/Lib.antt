@@ -1,0 +1,4 @@
+pub mod ColumnLaws
+pub mod LeafLaws
+pub mod SplitLaws
+pub mod WalkLaws
