@@ -11,6 +11,7 @@ use rules::model::Tiles;
 ghost use mathlib.Core.Path.{_≡_};
 ghost use Prim.Native.Nat.{_≤_};
 ghost use lib.ListN.{length};
+ghost use Rattle.rules.specs.Tree.{axisCode, barCode};
 
 // A list of numbers, and the place after it.
 pub struct IdsRead {
@@ -87,7 +88,9 @@ pub fn tiles(b: &[u8], at: usize) -> TilesRead
 }
 
 // A tab bar placement by its number; past the table, the first.
-pub fn bar(n: u64) -> TabBarPlacement {
+pub fn bar(n: u64) -> TabBarPlacement
+    ensures { λ r. ⌜ (n ≤ 4 → barCode r ≡ n) ⌝ }
+{
     match n {
         1 => TabBarPlacement::Top,
         2 => TabBarPlacement::Bottom,
@@ -98,7 +101,9 @@ pub fn bar(n: u64) -> TabBarPlacement {
 }
 
 // An axis by its number; past the table, the first.
-pub fn axis(n: u64) -> Axis {
+pub fn axis(n: u64) -> Axis
+    ensures { λ r. ⌜ (n ≤ 1 → axisCode r ≡ n) ⌝ }
+{
     match n {
         1 => Axis::Vertical,
         _ => Axis::Horizontal,
