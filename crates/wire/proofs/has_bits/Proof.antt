@@ -1,16 +1,11 @@
 -- `wire::has_bits` meets its contract: a number that equals itself is no NaN. Assumes nothing.
-use mathlib.Core.Bool.{Bool, true, false, not, cond, true≢false}
-use mathlib.Core.Path.{_≡_, sym, ap}
-use lib.Dec.{T, eqb}
-use lib.Ieee.{Float, nan, inf, fin, binary64, isNan, eq, toBits}
+use mathlib.Core.Bool.{cond}
+use mathlib.Core.Path.{sym}
+use lib.Dec.{eqb}
+use lib.Ieee.{binary64, toBits}
+use Rattle.wire.proofs.Bits.{no-nan}
 use Rattle.wire.proofs.has_bits.Statement.{statement}
 use Rattle.wire.proofs.has_bits.Tie as tie
-
-no-nan : (x : Float) → eq x x ≡ true → T (not (isNan x))
-unfolding eq isNan
-no-nan nan h = absurd (true≢false (sym h))
-no-nan (inf s) h = tt
-no-nan (fin s m e) h = tt
 
 float-to-bits-result : tie.Need-float-to-bits-result
 float-to-bits-result c = no-nan (c .before .args .x) (c .if1 .taken)
