@@ -10,6 +10,7 @@ use rules::refusal::Answer;
 
 pub mod actions;
 pub mod leaves;
+pub mod lone;
 pub mod normalize;
 pub mod panes;
 pub mod splits;
