@@ -2,3 +2,4 @@ pub mod ColumnLaws
 pub mod LeafLaws
 pub mod SplitLaws
 pub mod WalkLaws
+pub mod PackLaws

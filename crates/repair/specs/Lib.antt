@@ -3,3 +3,4 @@ pub mod Walked
 pub mod Steps
 pub mod Splits
 pub mod Opens
+pub mod Pack
