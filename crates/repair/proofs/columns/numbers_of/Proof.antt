@@ -1,6 +1,6 @@
 -- `repair::columns::numbers_of` copies the number of one tile after another. Assumes nothing.
-use mathlib.Core.Path.{_≡_, refl, sym, _∙_}
-use mathlib.Core.List.{[], map}
+use mathlib.Core.Path.{_≡_, refl}
+use mathlib.Core.List.{map}
 use Prim.Native.Nat.{_≤_, _-_}
 use native.Mathlib.Omega.{arith}
 use lib.ListN.{length}
