@@ -9,6 +9,7 @@ use rules::model::TileTree;
 use rules::refusal::Answer;
 
 pub mod actions;
+pub mod columns;
 pub mod leaves;
 pub mod lone;
 pub mod normalize;
