@@ -27,7 +27,7 @@ ghost use Rattle.repair.specs.Pack.{slotOf, headOf, idsOf, sharesOf, min
 // ---- from slots to columns
 
 // The number of a group's placement in its head.
-fn bar_code(b: TabBarPlacement) -> u64
+pub fn bar_code(b: TabBarPlacement) -> u64
     ensures { λ r. ⌜ r ≡ barCode b ⌝ }
 {
     match b {

@@ -1,26 +1,33 @@
 // The one sound tree that repair would alter: its only occupied slot is the root, an empty Hidden group with active 0.
+use crate::columns;
 use rules::model::Kind;
 use rules::model::Slot;
 use rules::model::TabBarPlacement;
 use rules::model::TileTree;
 ghost use mathlib.Core.Path.{_≡_};
-ghost use mathlib.Core.Bool.{_||_};
+ghost use mathlib.Core.Bool.{_&&_, _||_};
 ghost use mathlib.Core.List.{map};
 ghost use lib.Dec.{eqb};
 ghost use Rattle.rules.specs.Lists.{allOf};
 ghost use Rattle.rules.specs.Tree.{tile, view, viewSlot, clearNode, isEmpty, emptyGroup, barCode, sameNode};
 ghost use Rattle.rules.specs.Sound.{loneEmptyRoot};
 
-fn is_hidden(b: TabBarPlacement) -> bool
-    ensures { λ r. ⌜ r ≡ eqb (barCode b) 0 ⌝ }
+fn both(a: bool, b: bool) -> bool
+    ensures { λ r. ⌜ r ≡ (a && b) ⌝ }
 {
-    match b {
-        TabBarPlacement::Hidden => true,
-        TabBarPlacement::Top => false,
-        TabBarPlacement::Bottom => false,
-        TabBarPlacement::Left => false,
-        TabBarPlacement::Right => false,
+    if a {
+        return b;
     }
+    false
+}
+
+// A group's placement, active and length, all 0.
+fn is_blank(b: TabBarPlacement, active: usize, len: usize) -> bool
+    ensures { λ r. ⌜ r ≡ (eqb (barCode b) 0 && eqb active 0 && eqb len 0) ⌝ }
+{
+    let bar = columns::bar_code(b);
+    let first = both(bar == 0, active == 0);
+    both(first, len == 0)
 }
 
 fn is_empty_group(s: Slot) -> bool
@@ -31,14 +38,7 @@ fn is_empty_group(s: Slot) -> bool
     match k {
         Kind::Empty => false,
         Kind::Pane(_) => false,
-        Kind::Tabs(b) => {
-            if is_hidden(b) {
-                if s.active == 0 {
-                    return panes.len == 0;
-                }
-            }
-            false
-        }
+        Kind::Tabs(b) => is_blank(b, s.active, panes.len),
         Kind::Split(_) => false,
     }
 }
