@@ -11,7 +11,9 @@ use lib.Dec.{eqb}
 use lib.ListN.{length, getD, take, drop, set, length-set, length-map, drop-of-length-le}
 use lib.Seq.{drop-cons, getD-set-same, getD-set-other}
 use Rattle.rules.specs.Lists.{allOf, sameList}
-use Rattle.rules.specs.Tree.{Node, empty, tile, viewSlot, clearNode, isEmpty, emptyGroup, nodeOf, barCode, sameNode}
+use Rattle.rules.specs.Tree.{Node, empty, tile, view, viewSlot, clearNode, isEmpty, emptyGroup, nodeOf, barCode, sameNode}
+use Rattle.rules.specs.Sound.{loneEmptyRoot}
+use Rattle.rules.specs.declared.model.TileTree.{TileTree}
 use Rattle.rules.specs.declared.model.Slot.{Slot}
 use Rattle.rules.specs.declared.model.TabBarPlacement.{TabBarPlacement}
 use Rattle.rules.specs.declared.model.Kind.the-variants.{Tabs}
@@ -74,3 +76,20 @@ module _ (ss : List Slot) (root : ℕ) (size : length ss ≡ 64) where
   pub rest-all : (i : ℕ) → 64 ≤ i → Rest i → true ≡ allOf isEmpty rest
   unfolding allOf
   rest-all i h r = sym (ap (allOf isEmpty) (let h′ : length rest ≤ i = omega (arith, rest-long) in drop-of-length-le rest h′)) ∙ r
+
+-- ---- the root
+
+past : (ns : List Node) (i : ℕ) → length ns ≤ i → getD ns i empty ≡ empty
+past [] i h = refl
+past (n ∷ ns) zero h = absurd (omega arith)
+past (n ∷ ns) (suc i) h = past ns i (omega arith)
+
+module _ (t : TileTree) (size : length (t .slots) ≡ 64) where
+  pub lone-out : 64 ≤ t .root .slot → false ≡ loneEmptyRoot (view t)
+  lone-out h =
+      sym (ap (λ (n : Node). sameNode n emptyGroup && allOf isEmpty (clearNode (t .root) (map viewSlot (t .slots)))) (past (map viewSlot (t .slots)) (t .root .slot) (omega (arith, length-map (t .slots) viewSlot, size))))
+
+  pub lone-in : (d : Slot) → t .root .slot < 64
+      → (sameNode (viewSlot (getD (t .slots) (t .root .slot) d)) emptyGroup && allOf isEmpty (clearNode (t .root) (map viewSlot (t .slots)))) ≡ loneEmptyRoot (view t)
+  lone-in d h =
+      ap (λ (n : Node). sameNode n emptyGroup && allOf isEmpty (clearNode (t .root) (map viewSlot (t .slots)))) (sym (getD-map viewSlot (t .slots) (t .root .slot) d empty (omega (arith, size))))

@@ -130,11 +130,11 @@ unpacked [] = refl
 unpacked (s ∷ ss) = λ z. node-back (s .kind) s z ∷ unpacked ss z
 
 -- no list too long was given
-or-left : (a b : Bool) → (a || b) ≡ false → a ≡ false
+pub or-left : (a b : Bool) → (a || b) ≡ false → a ≡ false
 or-left true b e = e
 or-left false b e = refl
 
-or-right : (a b : Bool) → (a || b) ≡ false → b ≡ false
+pub or-right : (a b : Bool) → (a || b) ≡ false → b ≡ false
 or-right true b e = absurd (no e)
   where
     no : true ≡ false → ⊥

@@ -15,6 +15,7 @@ pub mod lone;
 pub mod normalize;
 pub mod panes;
 pub mod splits;
+pub mod whole;
 
 // How many panes were seen and how many actions are listed.
 pub struct Counts {

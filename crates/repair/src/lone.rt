@@ -8,6 +8,7 @@ ghost use mathlib.Core.Path.{_≡_};
 ghost use mathlib.Core.Bool.{_&&_, _||_};
 ghost use mathlib.Core.List.{map};
 ghost use lib.Dec.{eqb};
+ghost use lib.ListN.{length};
 ghost use Rattle.rules.specs.Lists.{allOf};
 ghost use Rattle.rules.specs.Tree.{tile, view, viewSlot, clearNode, isEmpty, emptyGroup, barCode, sameNode};
 ghost use Rattle.rules.specs.Sound.{loneEmptyRoot};
@@ -80,12 +81,18 @@ fn others_empty(slots: [Slot; 64], root: u64) -> bool
     true
 }
 
+// The slots of a tree are 64.
+pub fn sized(slots: [Slot; 64])
+    ensures { λ r. ⌜ length slots ≡ 64 ⌝ }
+{}
+
 pub fn lone_empty_root(t: TileTree) -> bool
     ensures { λ r. ⌜ r ≡ loneEmptyRoot (view t) ⌝ }
 {
     let top = t.root;
     let root = top.slot;
     let slots = t.slots;
+    sized(slots);
     if 64 <= root {
         return false;
     }

@@ -34,7 +34,7 @@ returns-3 c =
     let h = c .before .before .before .before .before in
     let s = h .args .s in
     let l : length (s .panes .at) ≡ 16 = search needs in
-    c .is-blank .ensures ∙ blank-is s _ l ∙ ap (λ (k : Kind). sameNode (nodeOf k s) emptyGroup) (sym (c .before .known-told .given .1))
+    c .is-blank .ensures ∙ blank-is s (c .before .before .k .given .0 .0) l ∙ ap (λ (k : Kind). sameNode (nodeOf k s) emptyGroup) (sym (c .before .before .k .given .1))
 
 returns-4 : tie.Need-returns-4
 returns-4 c = search needs
