@@ -15,3 +15,4 @@ pub mod Equal
 pub mod Quiet
 pub mod SoundIs
 pub mod Depth
+pub mod Finish

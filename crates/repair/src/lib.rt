@@ -9,10 +9,13 @@ use rules::model::TileTree;
 use rules::refusal::Answer;
 
 pub mod actions;
+pub mod columns;
 pub mod leaves;
+pub mod lone;
 pub mod normalize;
 pub mod panes;
 pub mod splits;
+pub mod whole;
 
 // How many panes were seen and how many actions are listed.
 pub struct Counts {

@@ -1,0 +1,209 @@
+-- Laws of a whole repair, over plain values: how it begins, and how each end of the walk gives the rule's answer. Assumes nothing.
+use mathlib.Core.Path.{_≡_, refl, sym, ap, subst, _∙_}
+use mathlib.Core.Bool.{Bool, true, false, _&&_, _||_}
+use mathlib.Core.List.{List, [], _∷_, map}
+use mathlib.Core.Option.{Option, none, some}
+use Prim.Native.Nat.{ℕ, zero, suc, _+_, _*_, _≤_, _<_}
+use native.Mathlib.Omega.{arith}
+use borrow.Author.Tests.{le-ltb, ne-eqb}
+use lib.Dec.{eqb, ltb}
+use lib.ListN.{length, getD, take, set, replicate, length-map, length-take, length-set}
+use lib.Ieee.{Float}
+use Rattle.rules.specs.Lists.{anyOf}
+use Rattle.rules.specs.Tree.{Node, empty, Arena, arena, tile, setNode, emptySlots, emptyGroup, wideNode, viewSlot, overSlot, view}
+use Rattle.rules.specs.Repair.{State, Work, Out, begin, normalizeNode, Repaired, refusedRepair, repair}
+use Rattle.rules.specs.Sound.{isAccepted, isNone, loneEmptyRoot, sound}
+use Rattle.rules.specs.declared.model.TileTree.{TileTree}
+use Rattle.rules.specs.declared.model.RepairAction.{RepairAction}
+use Rattle.rules.specs.declared.refusal.Answer.{Answer}
+use Rattle.rules.specs.declared.refusal.Answer.the-variants.{Accepted, Refused}
+use Rattle.rules.specs.declared.refusal.Refusal.{Refusal}
+use Rattle.rules.specs.declared.refusal.Refusal.the-variants.{ArenaFull, TooWide}
+use Rattle.forest.specs.Lists.{All, free}
+use Rattle.forest.specs.Soundness.{slots-inside}
+use Rattle.forest.specs.SoundIs.{sound-is}
+use Rattle.forest.specs.Sweep.{actionsBy}
+use Rattle.forest.specs.Finish.{finishedAs, repair-over, repair-kept, repair-wide, repair-full, repair-fresh}
+use Rattle.repair.specs.Columns.{Cols, cols, nodesIn, nodeBy, nodeFrom, nodesFrom, Slim, Sized, Shows, Lists}
+use Rattle.repair.specs.Walked.{Walked}
+use Rattle.repair.specs.Pack.{headOf, idsOf, sharesOf, minimaOf, Sweeps, firstOf, actionOf, reported}
+use Rattle.repair.specs.Whole.{repaired, Repairs, Refuses, Finishes, Plants}
+use Rattle.repair.specs.declared.Counts.{Counts}
+use Rattle.repair.specs.declared.Listed.{Listed}
+use Rattle.repair.specs.declared.Repairing.{Repairing}
+use Rattle.repair.specs.declared.Kept.{Kept}
+use Rattle.repair.specs.declared.Kept.the-variants.{At, Gone, Wide}
+use Rattle.repair.proofs.ColumnLaws.{nodes-head, slim-set}
+use Rattle.repair.proofs.PackLaws.{or-left, or-right, unpacked, unpacked-slim}
+
+-- ---- no list of slim heads is too wide
+
+narrow-take : {A : Type 0} (n : ℕ) (xs : List A) → n ≤ 16 → ltb 16 (length (take n xs)) ≡ false
+narrow-take n xs h = le-ltb 16 (length (take n xs)) (omega (arith, length-take n xs))
+
+narrow-node : (k : ℕ) (h xs : List ℕ) (ss ms : List Float) → Slim h → wideNode (nodeBy k h xs ss ms) ≡ false
+narrow-node zero h xs ss ms s = refl
+narrow-node (suc zero) h xs ss ms s = refl
+narrow-node (suc (suc zero)) h xs ss ms (a, b, c) = narrow-take (getD h 4 0) xs a
+narrow-node (suc (suc (suc k))) h xs ss ms (a, b, c) =
+    rw (length-map (take (getD h 4 0) xs) tile, narrow-take (getD h 4 0) xs a, narrow-take (getD h 5 0) ss b, narrow-take (getD h 6 0) ms c) refl
+
+narrow-from : (hs xs : List (List ℕ)) (ss ms : List (List Float)) → ((i : ℕ) → Slim (getD hs i [])) → anyOf wideNode (nodesFrom hs xs ss ms) ≡ false
+unfolding anyOf nodesFrom
+narrow-from [] xs ss ms s = refl
+narrow-from (h ∷ hs) [] ss ms s = refl
+narrow-from (h ∷ hs) (x ∷ xs) [] ms s = refl
+narrow-from (h ∷ hs) (x ∷ xs) (y ∷ ss) [] s = refl
+narrow-from (h ∷ hs) (x ∷ xs) (y ∷ ss) (m ∷ ms) s = ap (λ (b : Bool). b || anyOf wideNode (nodesFrom hs xs ss ms)) (narrow-node (getD h 0 0) h x y m (s 0)) ∙ narrow-from hs xs ss ms (λ i. s (suc i))
+
+narrow-in : (C : Cols) → Sized C → anyOf wideNode (nodesIn C) ≡ false
+narrow-in C S = narrow-from (C .heads) (C .ids) (C .shares) (C .minima) (S .slim)
+
+narrow-set : (ns : List Node) (i : ℕ) → anyOf wideNode ns ≡ false → anyOf wideNode (set ns i emptyGroup) ≡ false
+unfolding anyOf
+narrow-set [] i e = refl
+narrow-set (n ∷ ns) zero e = or-right (wideNode n) (anyOf wideNode ns) e
+narrow-set (n ∷ ns) (suc i) e =
+    ap (λ (b : Bool). b || anyOf wideNode (set ns i emptyGroup)) (or-left (wideNode n) (anyOf wideNode ns) e) ∙ narrow-set ns i (or-right (wideNode n) (anyOf wideNode ns) e)
+
+-- ---- refused: the tree as it was given
+
+pub refused-repairs : (t : TileTree) (e : Refusal) (r : Repairing) → Refuses t e r → repair (view t) ≡ refusedRepair e (view t) → Repairs t r
+refused-repairs t e r R u = ((λ z. record { answer = R .answer z; tree = view (R .tree z); actions = R .actions z }) ∙ sym u, λ f q. R .tree)
+
+pub over-repairs : (t : TileTree) (r : Repairing) → Refuses t TooWide r → anyOf overSlot (t .slots) ≡ true → Repairs t r
+over-repairs t r R e = refused-repairs t TooWide r R (repair-over (view t) e)
+
+-- ---- accepted
+
+finished-repairs : (t : TileTree) (s : ℕ) (r : Repairing) (ns : List Node) (cs : List Bool) (acts : List (List ℕ)) (n : ℕ) → Finishes ns cs acts n (t .revision) s r
+    → (l : List RepairAction) → Lists acts n l → repair (view t) ≡ finishedAs (view t) (tile s) cs ns l → Repairs t r
+finished-repairs t s r ns cs acts n F l g e = ((λ z. record { answer = F .answer z; tree = F .tree z; actions = F .actions l g z }) ∙ sym e, λ f q. absurd (told (F .answer) q))
+  where
+    told : {x : Answer} {f : Refusal} → x ≡ Accepted → x ≡ Refused f → ⊥
+    told p q = let z : _≡_ {A = ℕ} 0 1 = cc in omega arith
+
+-- the sweep, the packing and the report, one after another
+pub finishes : (hs xs : List (List ℕ)) (ss ms : List (List Float)) (cs : List Bool) (acts : List (List ℕ)) (n : ℕ) (hs′ acts′ : List (List ℕ)) (m revision root : ℕ) (r : Repairing)
+    → length xs ≡ 64 → length ss ≡ 64 → length ms ≡ 64 → Sweeps hs cs acts n hs′ acts′ m
+    → (map viewSlot (r .tree .slots) ≡ nodesFrom hs′ xs ss ms) × (anyOf overSlot (r .tree .slots) ≡ false) → ((l : List RepairAction) → Lists acts′ m l → reported (r .actions) ≡ l)
+    → r .answer ≡ Accepted → r .tree .root ≡ tile root → r .tree .revision ≡ revision → Finishes (nodesFrom hs xs ss ms) cs acts n revision root r
+finishes hs xs ss ms cs acts n hs′ acts′ m v root r lx ls lm S (p, o) R e er ev =
+    record {
+      answer = e;
+      tree = λ z. record { root = er z; revision = ev z; nodes = (p ∙ S .nodes xs ss ms lx ls lm) z; over = o z };
+      actions = λ l g. R (actionsBy 0 cs (nodesFrom hs xs ss ms) l) (S .lists xs ss ms lx ls lm l g);
+    }
+
+-- ---- the walk begins
+
+module _ (hs xs : List (List ℕ)) (ss ms : List (List Float)) (seen : List ℕ) (acts : List (List ℕ)) where
+  abbrev nothing : Counts
+  nothing = record { seen = 0; acts = 0 }
+
+  abbrev start : Cols
+  start = cols hs xs ss ms (replicate 64 false) seen acts nothing
+
+  pub start-sized : length hs ≡ 64 → length xs ≡ 64 → length ss ≡ 64 → length ms ≡ 64 → ((i : ℕ) → Slim (getD hs i [])) → Sized start
+  start-sized a b c d s = record { heads = a; ids = b; shares = c; minima = d; flags = refl; slim = s; panes = omega arith; listing = omega arith }
+
+  pub start-shows : (ns : List Node) → nodesFrom hs xs ss ms ≡ ns → Shows start (begin ns)
+  start-shows ns e = record { nodes = sym e; claimed = refl; panes = refl; actions = refl }
+
+-- ---- and ends
+
+module _ (t : TileTree) (size : length (t .slots) ≡ 64) (whole : anyOf overSlot (t .slots) ≡ false) (C : Cols) (few : free (C .claimed) ≤ 64) (shown : Shows C (begin (view t .nodes))) (D : Cols) (r : Repairing) where
+  abbrev a : Arena
+  a = view t
+
+  abbrev o : Out
+  o = normalizeNode 64 (a .root) (begin (a .nodes))
+
+  long : length (a .nodes) ≡ 64
+  long = length-map (t .slots) viewSlot ∙ size
+
+  -- a tile was kept
+  pub ended-kept : (s : ℕ) → Walked C D (At s) (t .root .slot) → Finishes (nodesIn D) (D .claimed) (D .acts) (D .counts .acts) (t .revision) s r → Repairs t r
+  ended-kept s W F =
+      let (k, S) = W .right (begin (a .nodes)) shown 64 few in
+      finished-repairs t s r (nodesIn D) (D .claimed) (D .acts) (D .counts .acts) F (o .work .actions) (S .actions)
+      (repair-kept a long whole (tile s) k (ap (anyOf wideNode) (S .nodes) ∙ narrow-in D (W .sized)) ∙ (λ z. finishedAs a (tile s) (S .claimed z) (S .nodes z) (o .work .actions)))
+
+  -- a list passed 16
+  pub ended-wide : Walked C D Wide (t .root .slot) → Refuses t TooWide r → Repairs t r
+  ended-wide W R = refused-repairs t TooWide r R (repair-wide a long whole (W .right (begin (a .nodes)) shown 64 few))
+
+  -- nothing was kept
+  pub ended-gone : Walked C D Gone (t .root .slot) → (spare : ℕ) → spare ≡ firstOf (emptySlots (a .nodes)) → Plants t (nodesIn D) (D .claimed) (D .acts) (D .counts .acts) spare r → Repairs t r
+  ended-gone W spare e P = go (emptySlots (a .nodes)) refl
+    where
+      go : (is : List ℕ) → emptySlots (a .nodes) ≡ is → Repairs t r
+      go [] q =
+          let none-left : spare ≡ 64 = e ∙ ap firstOf q in
+          refused-repairs t ArenaFull r (P .full (omega arith)) (repair-full a long whole (W .right (begin (a .nodes)) shown 64 few .0) q)
+      go (i ∷ is) q =
+          let first : spare ≡ i = e ∙ ap firstOf q in
+          let inside : i < 64 = subst (All (λ j. j < 64)) q (slots-inside (a .nodes) long) .0 in
+          let (k, S) = W .right (begin (a .nodes)) shown 64 few in
+          finished-repairs t i r (setNode (tile i) emptyGroup (nodesIn D)) (set (D .claimed) i true) (D .acts) (D .counts .acts)
+          (subst (λ (j : ℕ). Finishes (setNode (tile j) emptyGroup (nodesIn D)) (set (D .claimed) j true) (D .acts) (D .counts .acts) (t .revision) j r) first (P .fresh (omega arith)))
+          (o .work .actions) (S .actions)
+          (repair-fresh a long whole k i is q (narrow-set (o .work .state .nodes) i (ap (anyOf wideNode) (S .nodes) ∙ narrow-in D (W .sized)))
+          ∙ (λ z. finishedAs a (tile i) (set (S .claimed z) i true) (setNode (tile i) emptyGroup (S .nodes z)) (o .work .actions)))
+
+-- ---- the same of a tree's columns
+
+-- the sweep has room for what it lists
+pub room-left : (D : Cols) → Sized D → D .counts .acts + 64 ≤ 1300
+room-left D S = omega (arith, S .listing)
+
+module _ (t : TileTree) (whole : anyOf overSlot (t .slots) ≡ false) (hs xs : List (List ℕ)) (ss ms : List (List Float)) (seen : List ℕ) (acts : List (List ℕ))
+    (eh : hs ≡ map headOf (t .slots)) (ex : xs ≡ map idsOf (t .slots)) (es : ss ≡ map sharesOf (t .slots)) (em : ms ≡ map minimaOf (t .slots)) (size : length (t .slots) ≡ 64) where
+  shows : nodesFrom hs xs ss ms ≡ map viewSlot (t .slots)
+  shows = (λ z. nodesFrom (eh z) (ex z) (es z) (em z)) ∙ unpacked (t .slots)
+
+  ids-long : length xs ≡ 64
+  ids-long = ap length ex ∙ length-map (t .slots) idsOf ∙ size
+
+  shares-long : length ss ≡ 64
+  shares-long = ap length es ∙ length-map (t .slots) sharesOf ∙ size
+
+  minima-long : length ms ≡ 64
+  minima-long = ap length em ∙ length-map (t .slots) minimaOf ∙ size
+
+  pub begun-sized : Sized (start hs xs ss ms seen acts)
+  begun-sized =
+      start-sized hs xs ss ms seen acts (ap length eh ∙ length-map (t .slots) headOf ∙ size) ids-long shares-long minima-long
+      (λ i. subst (λ (l : List (List ℕ)). Slim (getD l i [])) (sym eh) (unpacked-slim (t .slots) whole i))
+
+  module _ (D : Cols) (k : Kept) (W : Walked (start hs xs ss ms seen acts) D k (t .root .slot)) (r : Repairing) where
+    abbrev C : Cols
+    C = start hs xs ss ms seen acts
+
+    shown : Shows C (begin (view t .nodes))
+    shown = start-shows hs xs ss ms seen acts (map viewSlot (t .slots)) shows
+
+    told : (q : Kept) → k ≡ q → Walked C D q (t .root .slot)
+    told q e = subst (λ (x : Kept). Walked C D x (t .root .slot)) e W
+
+    pub whole-kept : (s : ℕ) → k ≡ At s → Finishes (nodesIn D) (D .claimed) (D .acts) (D .counts .acts) (t .revision) s r → Repairs t r
+    whole-kept s e F = ended-kept t size whole C (omega arith) shown D r s (told (At s) e) F
+
+    pub whole-gone : (spare : ℕ) → k ≡ Gone
+        → ((ys : List (List ℕ)) (us ns : List (List Float)) → length ys ≡ 64 → length us ≡ 64 → length ns ≡ 64 → spare ≡ firstOf (emptySlots (nodesFrom hs ys us ns))) → Plants t (nodesIn D) (D .claimed) (D .acts) (D .counts .acts) spare r → Repairs t r
+    whole-gone spare e q P = ended-gone t size whole C (omega arith) shown D r (told Gone e) spare (q xs ss ms ids-long shares-long minima-long ∙ ap (λ (ns : List Node). firstOf (emptySlots ns)) shows) P
+
+    pub whole-wide : k ≡ Wide → Refuses t TooWide r → Repairs t r
+    whole-wide e R = ended-wide t size whole C (omega arith) shown D r (told Wide e) R
+
+-- ---- soundness, from a repair's answer
+
+pub none-listed : (at : List Listed) (n : ℕ) → 0 < length at → eqb n 0 ≡ isNone (map actionOf (take n at))
+none-listed at zero h = refl
+none-listed [] (suc n) h = absurd (omega arith)
+none-listed (x ∷ at) (suc n) h = ne-eqb (suc n) 0 (λ e. omega (arith, e))
+
+pub sound-by : (t : TileTree) → length (t .slots) ≡ 64 → (r : Repairing) → repaired r ≡ repair (view t)
+    → ((isAccepted (r .answer) && isNone (reported (r .actions))) || loneEmptyRoot (view t)) ≡ sound (view t)
+sound-by t size r e =
+    ap (λ (x : Repaired). (isAccepted (x .answer) && isNone (x .actions)) || loneEmptyRoot (view t)) e ∙ sym (sound-is (view t) (length-map (t .slots) viewSlot ∙ size))
