@@ -1,6 +1,6 @@
 //! Plain data for the original's files that are not at hand: ids.rs, model.rs
 //! and ops.rs. Every type is read off its uses in the five files that are;
-//! docs/oracle-differences.md lists each as an assumption.
+//! docs/DIFFERENCES.md lists each as an assumption.
 
 use core::fmt;
 
