@@ -6,8 +6,9 @@
 use std::fs;
 use std::path::{Path, PathBuf};
 
-use oracle::check::{Kind, RUN, compare, layout_case, run_start, shown_input};
+use oracle::check::{Input, Kind, RUN, compare, differs, layout_case, run_start, shown, shown_input};
 use oracle::engine::Engine;
+use oracle::generate::hand;
 use oracle::generate::hostile::arena;
 use oracle::generate::operations::operation;
 use oracle::generate::rng::Rng;
@@ -15,6 +16,7 @@ use oracle::generate::solver::solver_input;
 use oracle::generate::tables::table;
 use oracle::model::Model;
 use oracle::original::Original;
+use oracle::value::TileTree;
 use oracle::wire::Writer;
 
 /// Not the comparison's usual seed, so that a stored case is one of its own.
@@ -54,12 +56,11 @@ fn default_folder() -> PathBuf {
 fn write(folder: &Path, file: &File) {
     let mut out = Writer::default();
     out.bytes.extend(file.magic);
-    out.number(file.cases);
+    let bodies: Vec<Vec<u8>> = by_hand(file.kind).into_iter().chain(drawn(file)).collect();
+    out.number(bodies.len() as u64);
     let mut largest = 0;
-    for case in 0..file.cases {
-        confirm(file.kind, case);
-        let body = body(file.kind, &mut file.kind.rng(SEED, case));
-        assert!(body.len() <= LARGEST_BODY, "{} case {case} is too large", file.name);
+    for body in &bodies {
+        assert!(body.len() <= LARGEST_BODY, "a case of {} is too large", file.name);
         largest = largest.max(body.len());
         out.number(body.len() as u64);
         out.bytes.extend(body);
@@ -69,9 +70,30 @@ fn write(folder: &Path, file: &File) {
     println!(
         "{:<15} {} cases, {} bytes, largest case {largest} bytes",
         file.name,
-        file.cases,
+        bodies.len(),
         out.bytes.len()
     );
+}
+
+/// Arenas made by hand stand before those that are drawn.
+fn by_hand(kind: Kind) -> Vec<Vec<u8>> {
+    if kind != Kind::Repair {
+        return Vec::new();
+    }
+    hand::arenas().iter().map(confirmed_repair).collect()
+}
+
+fn confirmed_repair(tree: &TileTree) -> Vec<u8> {
+    let input = Input::Repair(tree.clone());
+    assert!(!differs(&input, &mut Original, &mut Model), "the original differs on {}", shown(tree));
+    repair_body(tree)
+}
+
+fn drawn(file: &File) -> impl Iterator<Item = Vec<u8>> + '_ {
+    (0..file.cases).map(|case| {
+        confirm(file.kind, case);
+        body(file.kind, &mut file.kind.rng(SEED, case))
+    })
 }
 
 /// No answer is stored that the original does not give as well.
@@ -91,11 +113,7 @@ fn body(kind: Kind, rng: &mut Rng) -> Vec<u8> {
             out.reals(&input.minima);
             out.solve_answer(&Model.solve(input.total, &input.shares, &input.minima));
         }
-        Kind::Repair => {
-            let tree = arena(rng);
-            out.tree(&tree);
-            out.repair_answer(&tree, Model.is_sound(&tree), &Model.repair(&tree));
-        }
+        Kind::Repair => return repair_body(&arena(rng)),
         Kind::Operations => run(&mut out, rng),
         Kind::Layout => {
             let (tree, input) = layout_case(rng);
@@ -110,6 +128,13 @@ fn body(kind: Kind, rng: &mut Rng) -> Vec<u8> {
             out.spec_answer(&Model.from_spec(&bytes));
         }
     }
+    out.bytes
+}
+
+fn repair_body(tree: &TileTree) -> Vec<u8> {
+    let mut out = Writer::default();
+    out.tree(tree);
+    out.repair_answer(tree, Model.is_sound(tree), &Model.repair(tree));
     out.bytes
 }
 

@@ -1,5 +1,6 @@
 //! Generators of inputs, each reproducible from a seed, a kind and a number.
 
+pub mod hand;
 pub mod hostile;
 pub mod inputs;
 pub mod operations;
