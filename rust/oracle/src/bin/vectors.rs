@@ -6,7 +6,9 @@
 use std::fs;
 use std::path::{Path, PathBuf};
 
-use oracle::check::{Input, Kind, RUN, compare, differs, layout_case, run_start, shown, shown_input};
+use oracle::check::{
+    Input, Kind, RUN, compare, differs, layout_case, run_start, shown, shown_input,
+};
 use oracle::engine::Engine;
 use oracle::generate::hand;
 use oracle::generate::hostile::arena;
