@@ -21,3 +21,4 @@ pub mod SlotsLoop
 pub mod LoadLaws
 pub mod Draft
 pub mod DraftLaws
+pub mod Whole
