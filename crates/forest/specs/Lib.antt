@@ -16,3 +16,6 @@ pub mod Quiet
 pub mod SoundIs
 pub mod Depth
 pub mod Finish
+pub mod Seen
+pub mod Loose
+pub mod Kept
