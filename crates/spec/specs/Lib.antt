@@ -22,3 +22,7 @@ pub mod LoadLaws
 pub mod Draft
 pub mod DraftLaws
 pub mod Whole
+pub mod Sprout
+pub mod Once
+pub mod Standing
+pub mod Accepted

@@ -128,7 +128,7 @@ module _ (bs : List ℕ) (t : Places) (kids : List ℕ) (end : ℕ) (z : Slotted
 
 -- ---- a row that was checked fits a slot
 
-refuse-not : (b : Bool) (e : Refusal) (o : Option Refusal) → refuseIf b e o ≡ none → (b ≡ false) × (o ≡ none)
+pub refuse-not : (b : Bool) (e : Refusal) (o : Option Refusal) → refuseIf b e o ≡ none → (b ≡ false) × (o ≡ none)
 refuse-not true e o q = absurd (let z : _≡_ {A = ℕ} 0 1 = cc in omega arith)
 refuse-not false e o q = (refl, q)
 
@@ -136,7 +136,7 @@ refuse-none : (i : Option ℕ) (e : ℕ → Refusal) (o : Option Refusal) → re
 refuse-none none e o q = q
 refuse-none (some i) e o q = absurd (let z : _≡_ {A = ℕ} 0 1 = cc in omega arith)
 
-first-none : (a b : Option Refusal) → firstRefusal a b ≡ none → (a ≡ none) × (b ≡ none)
+pub first-none : (a b : Option Refusal) → firstRefusal a b ≡ none → (a ≡ none) × (b ≡ none)
 first-none none b q = (refl, q)
 first-none (some x) b q = absurd (let z : _≡_ {A = ℕ} 0 1 = cc in omega arith)
 
