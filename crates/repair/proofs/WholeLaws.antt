@@ -3,16 +3,15 @@ use mathlib.Core.Path.{_≡_, refl, sym, ap, subst, _∙_}
 use mathlib.Core.Logic.{_⊎_, inl, inr}
 use mathlib.Core.Bool.{Bool, true, false, _&&_, _||_}
 use mathlib.Core.List.{List, [], _∷_, map}
-use mathlib.Core.Option.{Option, none, some}
-use Prim.Native.Nat.{ℕ, zero, suc, _+_, _*_, _≤_, _<_}
+use Prim.Native.Nat.{ℕ, zero, suc, _+_, _≤_, _<_}
 use native.Mathlib.Omega.{arith}
 use borrow.Author.Tests.{le-ltb, ne-eqb, ltb-true, ltb-false}
 use lib.Dec.{eqb, ltb}
-use lib.ListN.{length, getD, take, set, replicate, length-map, length-take, length-set}
+use lib.ListN.{length, getD, take, set, replicate, length-map, length-take}
 use lib.Ieee.{Float}
 use Rattle.rules.specs.Lists.{anyOf}
-use Rattle.rules.specs.Tree.{Node, empty, Arena, arena, tile, setNode, emptySlots, emptyGroup, wideNode, viewSlot, overSlot, view}
-use Rattle.rules.specs.Repair.{State, Work, Out, begin, normalizeNode, Repaired, refusedRepair, repair}
+use Rattle.rules.specs.Tree.{Node, empty, Arena, tile, setNode, emptySlots, emptyGroup, wideNode, viewSlot, overSlot, view}
+use Rattle.rules.specs.Repair.{Out, begin, normalizeNode, Repaired, refusedRepair, repair}
 use Rattle.rules.specs.Sound.{isAccepted, isNone, loneEmptyRoot, sound}
 use Rattle.rules.specs.declared.model.TileTree.{TileTree}
 use Rattle.rules.specs.declared.model.RepairAction.{RepairAction}
@@ -25,17 +24,17 @@ use Rattle.forest.specs.Soundness.{slots-inside}
 use Rattle.forest.specs.SoundIs.{sound-is}
 use Rattle.forest.specs.Sweep.{actionsBy}
 use Rattle.forest.specs.Finish.{finishedAs, normalized, repair-over, repair-whole, normalized-kept, normalized-wide, normalized-full, normalized-fresh}
-use Rattle.repair.specs.Columns.{Cols, cols, nodesIn, nodeBy, nodeFrom, nodesFrom, Slim, Sized, Shows, Lists}
-use Rattle.repair.specs.Walked.{Walked}
-use Rattle.repair.specs.Pack.{headOf, idsOf, sharesOf, minimaOf, Sweeps, firstOf, actionOf, reported}
+use Rattle.normalize.specs.Work.{Cols, cols, nodesIn, Sized, Shows}
+use Rattle.columns.specs.Columns.{nodeBy, nodesFrom, Slim, Lists}
+use Rattle.normalize.specs.Walked.{Walked}
+use Rattle.columns.specs.Pack.{headOf, idsOf, sharesOf, minimaOf, Sweeps, firstOf, actionOf, reported}
 use Rattle.repair.specs.Whole.{repaired, Repairs, Normalizes, Refuses, Finishes, Plants}
-use Rattle.repair.specs.declared.Counts.{Counts}
-use Rattle.repair.specs.declared.Listed.{Listed}
+use Rattle.normalize.specs.declared.Counts.{Counts}
+use Rattle.columns.specs.declared.Listed.{Listed}
 use Rattle.repair.specs.declared.Repairing.{Repairing}
-use Rattle.repair.specs.declared.Kept.{Kept}
-use Rattle.repair.specs.declared.Kept.the-variants.{At, Gone, Wide}
-use Rattle.repair.proofs.ColumnLaws.{nodes-head, slim-set}
-use Rattle.repair.proofs.PackLaws.{or-left, or-right, unpacked, unpacked-slim}
+use Rattle.normalize.specs.declared.Kept.{Kept}
+use Rattle.normalize.specs.declared.Kept.the-variants.{At, Gone, Wide}
+use Rattle.columns.specs.PackLaws.{or-left, or-right, unpacked, unpacked-slim}
 
 -- ---- no list of slim heads is too wide
 

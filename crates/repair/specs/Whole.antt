@@ -14,8 +14,8 @@ use Rattle.rules.specs.declared.refusal.Refusal.the-variants.{ArenaFull}
 use Rattle.forest.specs.Lists.{All}
 use Rattle.forest.specs.Sweep.{sweptBy, actionsBy}
 use Rattle.forest.specs.Finish.{normalized}
-use Rattle.repair.specs.Columns.{Lists}
-use Rattle.repair.specs.Pack.{firstOf, reported}
+use Rattle.columns.specs.Columns.{Lists}
+use Rattle.columns.specs.Pack.{firstOf, reported}
 use Rattle.repair.specs.declared.Repairing.{Repairing}
 
 -- what a repair answered, as the rule has it
