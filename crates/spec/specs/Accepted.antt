@@ -176,10 +176,11 @@ from-spec-sound bs = go (accepted-or-refused bs)
     go (inl (e, _)) = accepted-sound bs e
     go (inr (e, q)) = subst (λ (b : Built). sound (b .tree) ≡ true) (sym q) (settled-sound (refusedSpec e .tree .nodes) (tile 0) 0 (refused-narrow e) (inr (refused-lone e)))
 
--- equal sections, equal answers: what else stands in the bytes is not heard
-pub same-sections : (bs cs : List ℕ) → readTable bs ≡ readTable cs → fromSpec bs ≡ fromSpec cs
+-- two tables of equal sections have equal answers and equal trees
+pub same-sections : (bs cs : List ℕ) (t u : Table) → readTable bs ≡ some t → readTable cs ≡ some u
+    → t .rows ≡ u .rows → t .panes ≡ u .panes → t .shares ≡ u .shares → t .minima ≡ u .minima → fromSpec bs ≡ fromSpec cs
 unfolding fromSpec
-same-sections bs cs e = ap tabled e
+same-sections bs cs t u p q r s x y = ap tabled (p ∙ (λ i. some (record { rows = r i; panes = s i; shares = x i; minima = y i })) ∙ sym q)
 
 -- THE ANSWER IS ONE: two that meet the call's contract have the same answer with the same details, and trees of one view
 pub from-spec-unique : (bs : List ℕ) (x y : Answer) (t u : TileTree) → Drafted x t (fromSpec bs) → Drafted y u (fromSpec bs) → (x ≡ y) × (view t ≡ view u)
