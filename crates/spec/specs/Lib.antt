@@ -26,3 +26,6 @@ pub mod Sprout
 pub mod Once
 pub mod Standing
 pub mod Accepted
+pub mod Write
+pub mod ReadBack
+pub mod Written
