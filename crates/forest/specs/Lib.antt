@@ -20,3 +20,4 @@ pub mod Finish
 pub mod Seen
 pub mod Loose
 pub mod Kept
+pub mod Still

@@ -1,3 +1,6 @@
 pub mod Plain
 pub mod Fits
 pub mod Sizes
+pub mod Splits
+pub mod Demand
+pub mod Accepted

@@ -3,18 +3,18 @@
 use mathlib.Core.Path.{_≡_, refl, sym, ap, _∙_, subst}
 use mathlib.Core.Bool.{Bool, true, false, not, _&&_, Bool·beq, cond}
 use Prim.Native.Nat.{ℕ, zero, suc, _+_, _-_, _*_, _/_, _%_, _^_, _≤_, _<_, compare}
-use native.Mathlib.Nat.{le-trans, le-of-eq, lt-of-le-of-lt, lt-of-lt-of-le, mul-lt-mul-of-pos-right, mul-one, mul-assoc, mul-comm, mul-right-comm, mul-le-mul, mul-le-mul-right, mul-le-mul-left, add-le-add, sub-le, le-add-right, le-add-left, add-mul, mul-pos, mul-mul-mul-comm}
+use native.Mathlib.Nat.{le-trans, le-of-eq, lt-of-lt-of-le, mul-lt-mul-of-pos-right, mul-one, mul-assoc, mul-comm, mul-le-mul, mul-le-mul-right, add-le-add, add-mul, mul-pos, mul-mul-mul-comm}
 use native.Mathlib.Omega.{arith}
-use lib.Dec.{T, ltb}
-use lib.Pow.{pow-add, pow-pos, pow-lt, pow-mono}
-use lib.Ieee.{Float, nan, inf, fin, binary64, prec, emax, low, up, down, size, nearest, odd, units, round, neg, sum, add, sub, mul, unlike, ofInt, lt, le}
-use lib.Ieee.Fits.{down-pos}
+use lib.Dec.{T, eqb, ltb, eqb→eq}
+use lib.Pow.{pow-add, pow-pos, pow-mono}
+use lib.Ieee.{Float, nan, inf, fin, binary64, prec, emax, low, up, down, size, nearest, odd, units, round, neg, sum, add, sub, mul, unlike, ofInt, lt, le, eq}
+use lib.Ieee.Fits.{down-pos, and-l}
 use lib.Ieee.Exact.{HasValue, round-exact}
 use lib.Ieee.Order.{round-mono}
 use lib.Ieee.Positive.{through}
 use lib.Ieee.Scale.{finite}
 use Rattle.rules.specs.Numbers.{zero-f, whole, larger}
-use Rattle.number.specs.Order.{nonneg, over, under, le→cross}
+use Rattle.number.specs.Order.{nonneg, over, le→cross}
 use Rattle.number.specs.Rounding.{round-nonneg}
 
 -- ---- the bound
@@ -58,6 +58,17 @@ small-below b (fin r m e) (fin t n d) p q h s =
     let k = through (m * up e) (n * up d) b (down e) (down d) 1 (down-pos d) (le→cross (fin r m e) (fin t n d) p q h) (le-trans (le-of-eq (mul-one (n * up d))) s) in
     le-trans (le-of-eq (sym (mul-one (m * up e)))) k
 
+-- from zero to one that is small
+pub small-between : (b : ℕ) (x y : Float) → T (le zero-f x) → T (le x y) → T (nonneg y) → Small b y → Small b x
+unfolding le lt eq
+small-between b nan y l h q s = absurd l
+small-between b (inf true) y l h q s = absurd l
+small-between b (inf false) y l h q s = small-below b (inf false) y tt q h s
+small-between b (fin false m e) y l h q s = small-below b (fin false m e) y tt q h s
+small-between b (fin true m e) y l h q s =
+    let z : 0 * 1 * down e ≡ m * up e * 1 = eqb→eq (0 * 1 * down e) (m * up e * 1) (and-l (eqb (0 * 1 * down e) (m * up e * 1)) (eqb (0 * 1 * down e) 0) l) in
+    omega (arith, z)
+
 -- ---- rounding, whatever the sign
 
 abbrev bare : Float → Float
@@ -100,6 +111,9 @@ value-small b (fin t m e) v = le-of-eq (sym (mul-one (m * up e)) ∙ v .1)
 pub record Held (c k : ℕ) : Type 0 where
   pub few : c < 2 ^ 53
   pub low-power : k ≤ 900
+
+pub held : (c k : ℕ) → c ≤ 64 → k ≤ 900 → Held c k
+held c k h g = record { few = omega (arith, h); low-power = g }
 
 held-value : (c k : ℕ) → Held c k → HasValue (round binary64 false (c * 2 ^ k) 1) false (c * 2 ^ k) 1
 held-value c k H =
