@@ -152,7 +152,7 @@ unfolding fromSpec
 accepted-or-refused bs = either-table (readTable bs)
 
 -- the lone empty root
-no-more : (n i : ℕ) → getD (replicate n empty) i empty ≡ empty
+pub no-more : (n i : ℕ) → getD (replicate n empty) i empty ≡ empty
 no-more zero i = refl
 no-more (suc n) zero = refl
 no-more (suc n) (suc i) = no-more n i

@@ -29,3 +29,7 @@ pub mod Accepted
 pub mod Write
 pub mod ReadBack
 pub mod Written
+pub mod Passes
+pub mod Renumber
+pub mod Renumbered
+pub mod RoundTrip

@@ -69,7 +69,7 @@ rows-back (r ∷ rs) f = λ i. consRow (row-back r (f .0) i) (rows-back rs (f .1
 
 -- ---- sections
 
-front : {A : Type 0} (xs ys : List A) (n : ℕ) → length xs ≡ n → (take n (xs ++ ys) ≡ xs) × (drop n (xs ++ ys) ≡ ys)
+pub front : {A : Type 0} (xs ys : List A) (n : ℕ) → length xs ≡ n → (take n (xs ++ ys) ≡ xs) × (drop n (xs ++ ys) ≡ ys)
 front [] ys zero e = (refl, refl)
 front [] ys (suc n) e = absurd (omega arith)
 front (x ∷ xs) ys zero e = absurd (omega arith)

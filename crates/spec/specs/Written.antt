@@ -96,7 +96,7 @@ module _ (ns : List Node) where
 
 -- ---- narrow nodes have numbers of two bytes
 
-node-narrow : (ns : List Node) → anyOf wideNode ns ≡ false → (i : ℕ) → wideNode (getD ns i empty) ≡ false
+pub node-narrow : (ns : List Node) → anyOf wideNode ns ≡ false → (i : ℕ) → wideNode (getD ns i empty) ≡ false
 unfolding anyOf
 node-narrow [] w i = refl
 node-narrow (n ∷ ns) w zero = or-left (wideNode n) (anyOf wideNode ns) w
@@ -193,13 +193,13 @@ module _ (ns : List Node) (narrow : anyOf wideNode ns ≡ false) where
 
 -- ---- a tidy tree
 
-one-root : (l : Left) (r : TileId) → keptOf l ≡ some r → length (roots (stem l)) ≡ 1
+pub one-root : (l : Left) (r : TileId) → keptOf l ≡ some r → length (roots (stem l)) ≡ 1
 one-root nothing r e = absurd (let z : _≡_ {A = ℕ} 0 1 = cc in omega arith)
 one-root (group i ps) r e = refl
 one-root (branch i a c) r e = refl
 
 module _ (a : Arena) (l : Left) (T : Tidy (a .nodes) (a .root) l) (narrow : anyOf wideNode (a .nodes) ≡ false) (N : Numbers (a .nodes) (readingFrom (a .nodes) (a .root))) where
-  order-is : readingFrom (a .nodes) (a .root) ≡ names (stem l)
+  pub order-is : readingFrom (a .nodes) (a .root) ≡ names (stem l)
   order-is = reads (a .nodes) (a .root) l (T .root-is) (T .held) (T .room)
 
   -- what is written of it is read as its table
