@@ -26,10 +26,3 @@ pub mod Sprout
 pub mod Once
 pub mod Standing
 pub mod Accepted
-pub mod Write
-pub mod ReadBack
-pub mod Written
-pub mod Passes
-pub mod Renumber
-pub mod Renumbered
-pub mod RoundTrip

@@ -17,12 +17,12 @@ use Rattle.rules.specs.declared.model.Axis.{Axis}
 use Rattle.forest.specs.Lists.{All}
 use Rattle.forest.specs.Codec.{stored, long-children}
 use Rattle.forest.specs.Forest.{Forest, nil, leaf, node, roots, tiles, shown, Leafy, Fine, Holds}
 use Rattle.spec.specs.PushLaws.{or-left, or-right}
 use Rattle.spec.specs.Sprout.{upFrom}
-use Rattle.spec.specs.Write.{rowOfNode}
-use Rattle.spec.specs.Written.{node-narrow}
-use Rattle.spec.specs.Passes.{rows}
-use Rattle.spec.specs.Renumber.{renumber, same-shares, same-minima, nodesFor, nodes-count}
+use Rattle.roundtrip.specs.Write.{rowOfNode}
+use Rattle.roundtrip.specs.Written.{node-narrow}
+use Rattle.roundtrip.specs.Passes.{rows}
+use Rattle.roundtrip.specs.Renumber.{renumber, same-shares, same-minima, nodesFor, nodes-count}
 
 -- ---- the renumbered forest: its tiles, its panes, its roots
 

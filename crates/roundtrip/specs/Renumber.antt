@@ -16,10 +16,10 @@ use Rattle.rules.specs.declared.model.Axis.{Axis}
 use Rattle.forest.specs.Codec.{stored, long-children}
 use Rattle.forest.specs.Forest.{Forest, nil, leaf, node, roots, tiles, Leafy, Holds}
 use Rattle.forest.specs.Again.{names, heads}
 use Rattle.spec.specs.PushLaws.{map-append}
-use Rattle.spec.specs.Write.{rowOfNode}
-use Rattle.spec.specs.ReadBack.{front}
-use Rattle.spec.specs.Passes.{before, after-node, rows, feed}
+use Rattle.roundtrip.specs.Write.{rowOfNode}
+use Rattle.roundtrip.specs.ReadBack.{front}
+use Rattle.roundtrip.specs.Passes.{before, after-node, rows, feed}
 
 -- its tiles i, i + 1, .. in reading order
 abbrev pub renumber : ℕ → Forest → Forest

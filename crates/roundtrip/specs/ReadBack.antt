@@ -18,7 +18,7 @@ use Rattle.rules.specs.declared.model.Axis.the-variants.{Horizontal, Vertical}
 use Rattle.rules.specs.declared.model.TabBarPlacement.{TabBarPlacement}
 use Rattle.rules.specs.declared.model.TabBarPlacement.the-variants.{Hidden, Top, Bottom, Left, Right}
 use Rattle.forest.specs.Lists.{All}
-use Rattle.spec.specs.Write.{bytesOf, realBytes, rowAs, rowBytes, joined, sectionThen, tableBytes}
+use Rattle.roundtrip.specs.Write.{bytesOf, realBytes, rowAs, rowBytes, joined, sectionThen, tableBytes}
 
 -- ---- numbers
 

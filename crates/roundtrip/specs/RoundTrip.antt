@@ -23,14 +23,14 @@ use Rattle.forest.specs.Again.{names, names-long}
 use Rattle.forest.specs.Grow.{nothing, group, branch, keptOf, stem}
 use Rattle.forest.specs.Grow as Grow
 use Rattle.forest.specs.Settled.{Tidy, unchanged, tidy-fixed}
 use Rattle.spec.specs.SlotsLoop.{any-replicate}
 use Rattle.spec.specs.Sprout.{upFrom, up-distinct}
 use Rattle.spec.specs.Accepted.{no-more}
-use Rattle.spec.specs.Write.{nodeShares, nodeMinima, along, tableAlong, toSpec}
-use Rattle.spec.specs.Written.{Numbers, order-is, one-root, written-reads, written-panes}
-use Rattle.spec.specs.Passes.{before, rows, feed, passes}
-use Rattle.spec.specs.Renumber.{renumber, same-count, nodesFor, nodes-count, grows}
-use Rattle.spec.specs.Renumbered.{tiles-are, shown-same, holds-new, any-join, slim-new, rows-slim}
+use Rattle.roundtrip.specs.Write.{nodeShares, nodeMinima, along, tableAlong, toSpec}
+use Rattle.roundtrip.specs.Written.{Numbers, order-is, one-root, written-reads, written-panes}
+use Rattle.roundtrip.specs.Passes.{before, rows, feed, passes}
+use Rattle.roundtrip.specs.Renumber.{renumber, same-count, nodesFor, nodes-count, grows}
+use Rattle.roundtrip.specs.Renumbered.{tiles-are, shown-same, holds-new, any-join, slim-new, rows-slim}
 
 -- ---- the sections of a forest's table are what it has, tile by tile
 
