@@ -1,4 +1,5 @@
--- THE ROUND TRIP: what is to be written of a sound tree is accepted, and gives the same tree, its tiles numbered in reading order. Assumes nothing.
+-- THE ROUND TRIP: what is to be written of a tidy tree is accepted, and gives the same tree, its tiles numbered in reading order.
+-- Tidy (forest/Settled): what every accepted repair leaves, the lone empty root aside, which no table has (12). Assumes nothing.
 use mathlib.Core.Path.{_≡_, refl, sym, ap, subst, _∙_}
 use mathlib.Core.Logic.{_≢_}
 use mathlib.Core.Bool.{Bool, true, false}

@@ -1,4 +1,4 @@
--- A sound tree's table is written and read back: what toSpec gives is read as the tree's own table, and a tree that is built from it has the same panes
+-- A tidy tree's table is written and read back: what toSpec gives is read as the tree's own table, and a tree that is built from it has the same panes
 -- in the same order. Assumes nothing.
 use mathlib.Core.Path.{_≡_, refl, sym, ap, subst, _∙_}
 use mathlib.Core.Bool.{Bool, true, false, _&&_, _||_}
