@@ -3,7 +3,6 @@ use mathlib.Core.Path.{_≡_, refl, sym, ap, _∙_}
 use mathlib.Core.Bool.{Bool, true, false, cond}
 use mathlib.Core.List.{List, [], _∷_, map}
 use Prim.Native.Nat.{ℕ, zero, suc}
-use native.Mathlib.Omega.{arith}
 use borrow.Author.Tests.{eqb-true}
 use lib.Dec.{eqb}
 use lib.ListN.{length, length-map, length-replicate}
@@ -12,7 +11,7 @@ use Rattle.rules.specs.Numbers.{zero-f, one-f, whole, minimumOk, shareOk}
 use Rattle.rules.specs.Lists.{anyOf}
 use Rattle.rules.specs.Shares.{fixShare, mendedBy, repairedBy, repairedShares}
 use Rattle.rules.specs.Minima.{minMajor, minMajorBy, splitMinMajor}
-use Rattle.rules.specs.Solver.{sumOf, part, pin, again, tick, Run, ran, respread, run, start, Lengths, still, sizes, sized, tight, loose, solveLengthsWithMin}
+use Rattle.rules.specs.Solver.{sumOf, part, pin, again, tick, ran, respread, run, start, still, sizes, sized, tight, loose, solveLengthsWithMin}
 use Rattle.rules.specs.Frame.{childTotal, childMinima, splitLengths}
 use Rattle.rules.specs.declared.solving.Kid.{Kid}
 use Rattle.rules.specs.declared.model.Axis.{Axis}

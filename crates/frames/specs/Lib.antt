@@ -2,6 +2,8 @@ pub mod Plain
 pub mod Fits
 pub mod Counted
 pub mod Order
+pub mod Nesting
+pub mod Splitwise
 pub mod Sizes
 pub mod Splits
 pub mod Demand

@@ -1,11 +1,11 @@
 -- The lists of a frame that follow the reading order: the focus order is the panes of the tree, each once; the pane list has each plain pane and each
 -- group's active pane once. And a nesting of 64 is enough. Assumes nothing.
-use mathlib.Core.Path.{_≡_, refl, sym, ap, subst, _∙_}
+use mathlib.Core.Path.{_≡_, refl, sym, ap, _∙_}
 use mathlib.Core.Logic.{_⊎_, inl, inr}
 use mathlib.Core.Bool.{Bool, true, false}
 use mathlib.Core.List.{List, [], _∷_, _++_, map, append-assoc, append-nil}
 use mathlib.Core.Option.{some}
-use Prim.Native.Nat.{ℕ, zero, suc, _+_, _≤_, min}
+use Prim.Native.Nat.{ℕ, zero, suc, _≤_, min}
 use native.Mathlib.Omega.{arith}
 use lib.ListN.{length, getD, length-map, List·getD-map}
 use lib.Ieee.{Float, binary64, add}
@@ -14,8 +14,8 @@ use Rattle.rules.specs.Target.{panesAlong, panesIn}
 use Rattle.rules.specs.Repair.{childrenOf, sharesOf, minimaOf}
 use Rattle.rules.specs.Minima.{compactConstraints}
 use Rattle.rules.specs.Sound.{sound}
-use Rattle.rules.specs.Tabs.{Barred, splitTabBar, tabRects}
-use Rattle.rules.specs.Frame.{Item, focusItem, paneItem, barItem, tabItem, childItem, handleItem, aPane, aTab, focusItems, tabsFrom, barItems, layoutTabsBy, layoutTabs, isMore, alongRect, alongStart, handleBy, layoutKids, splitLengths, layoutSplit, layoutNode, layoutTile, layoutItems, focusOf, paneOf, gather}
+use Rattle.rules.specs.Tabs.{splitTabBar, tabRects}
+use Rattle.rules.specs.Frame.{Item, focusItem, childItem, handleItem, aPane, focusItems, tabsFrom, barItems, layoutTabsBy, layoutTabs, isMore, alongRect, alongStart, handleBy, layoutKids, splitLengths, layoutSplit, layoutNode, layoutTile, layoutItems, focusOf, paneOf, gather}
 use Rattle.rules.specs.declared.model.TileId.{TileId}
 use Rattle.rules.specs.declared.model.Axis.{Axis}
 use Rattle.rules.specs.declared.model.TabBarPlacement.{TabBarPlacement}
@@ -25,14 +25,13 @@ use Rattle.rules.specs.declared.frame.LayoutInput.{LayoutInput}
 use Rattle.rules.specs.declared.frame.PaneFrame.{PaneFrame}
 use Rattle.rules.specs.declared.frame.SplitChildFrame.{SplitChildFrame}
 use Rattle.rules.specs.declared.frame.SplitHandleFrame.{SplitHandleFrame}
-use Rattle.forest.specs.Lists.{Distinct}
 use Rattle.forest.specs.Codec.{stored}
 use Rattle.forest.specs.Forest.{Forest, nil, leaf, node, roots, tiles, Leafy, Holds}
 use Rattle.forest.specs.Grow.{Left, nothing, group, branch, keptOf, stem}
 use Rattle.forest.specs.Again.{names}
 use Rattle.forest.specs.Depth.{Within, nested-within}
 use Rattle.forest.specs.Quiet.{plainNode, plainNodes}
-use Rattle.forest.specs.Settled.{Tidy, Lone, Settled, reads}
+use Rattle.forest.specs.Settled.{Lone, Settled, reads}
 use Rattle.forest.specs.SoundCases.{Plain, sound-cases}
 use Rattle.frames.specs.Plain.{layout-plain}
 use Rattle.frames.specs.Fits.{lone-none}
@@ -50,7 +49,7 @@ unfolding along
 along-append h ns [] ys = refl
 along-append h ns (x ∷ xs) ys = ap (λ l. h (nodeAt ns x) ++ l) (along-append h ns xs ys) ∙ sym (append-assoc (h (nodeAt ns x)) (along h ns xs) (along h ns ys))
 
-gather-both : {A : Type 0} (f : Item → List A) (xs ys : List Item) → gather f (xs ++ ys) ≡ gather f xs ++ gather f ys
+pub gather-both : {A : Type 0} (f : Item → List A) (xs ys : List Item) → gather f (xs ++ ys) ≡ gather f xs ++ gather f ys
 unfolding gather
 gather-both f [] ys = refl
 gather-both f (x ∷ xs) ys = ap (λ l. f x ++ l) (gather-both f xs ys) ∙ sym (append-assoc (f x) (gather f xs) (gather f ys))
@@ -132,7 +131,7 @@ module _ {A : Type 0} (g : Item → List A) (h : Node → List A) (L : Leafwise 
 
 -- ---- a sound arena
 
-reading-plain : (f : ℕ) (ns : List Node) (xs : List TileId) → reading f (plainNodes ns) xs ≡ reading f ns xs
+pub reading-plain : (f : ℕ) (ns : List Node) (xs : List TileId) → reading f (plainNodes ns) xs ≡ reading f ns xs
 unfolding reading
 reading-plain zero ns xs = refl
 reading-plain (suc f) ns [] = refl
@@ -146,7 +145,7 @@ reading-plain (suc f) ns (x ∷ xs) =
     kids-plain (tabs b a ps) = refl
     kids-plain (split a cs ss ms) = refl
 
-lone-reads : (ns : List Node) (r : TileId) → Lone ns r → readingFrom ns r ≡ r ∷ []
+pub lone-reads : (ns : List Node) (r : TileId) → Lone ns r → readingFrom ns r ≡ r ∷ []
 unfolding reading
 lone-reads ns r l = ap (λ (x : Node). r ∷ reading 1024 ns (kidsOf x ++ [])) (l .is)
 
