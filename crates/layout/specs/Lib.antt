@@ -1,0 +1,3 @@
+-- What the layout's contracts say beside the rules.
+pub mod Stream
+pub mod Grid
