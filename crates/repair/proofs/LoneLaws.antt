@@ -1,5 +1,5 @@
 -- Laws of the lone empty root: a group's three tests, and all slots but one read in turn. Assumes nothing.
-use mathlib.Core.Path.{_≡_, refl, sym, ap, subst, _∙_}
+use mathlib.Core.Path.{_≡_, refl, sym, ap, _∙_}
 use mathlib.Core.Bool.{Bool, true, false, not, _&&_, _||_}
 use mathlib.Core.List.{List, [], _∷_, map}
 use Prim.Native.Nat.{ℕ, zero, suc, _+_, _≤_, _<_}
@@ -8,7 +8,7 @@ use native.Mathlib.Decide.{ℕ-discrete}
 use native.Mathlib.Numerals.{add-one}
 use borrow.Author.Tests.{eq-eqb, ne-eqb}
 use lib.Dec.{eqb}
-use lib.ListN.{length, getD, take, drop, set, length-set, length-map, drop-of-length-le}
+use lib.ListN.{length, getD, take, drop, length-set, length-map, drop-of-length-le}
 use lib.Seq.{drop-cons, getD-set-same, getD-set-other}
 use Rattle.rules.specs.Lists.{allOf, sameList}
 use Rattle.rules.specs.Tree.{Node, empty, tile, view, viewSlot, clearNode, isEmpty, emptyGroup, nodeOf, barCode, sameNode}
@@ -17,7 +17,7 @@ use Rattle.rules.specs.declared.model.TileTree.{TileTree}
 use Rattle.rules.specs.declared.model.Slot.{Slot}
 use Rattle.rules.specs.declared.model.TabBarPlacement.{TabBarPlacement}
 use Rattle.rules.specs.declared.model.Kind.the-variants.{Tabs}
-use Rattle.repair.proofs.PackLaws.{getD-map}
+use Rattle.columns.specs.PackLaws.{getD-map}
 
 -- a test and its opposite
 pub not-true : (b : Bool) → not b ≡ true → b ≡ false

@@ -1,18 +1,22 @@
 // The whole of a repair: the Rust's repair and normalize_with_report, and soundness by it.
-use crate::Counts;
-use crate::Kept;
-use crate::Listed;
 use crate::Repairing;
-use crate::columns;
 use crate::lone;
-use crate::normalize;
+use columns::Listed;
+use columns::listing;
+use columns::pack;
+use columns::slots;
+use columns::sweep;
+use columns::unpack;
+use normalize::Counts;
+use normalize::Kept;
+use normalize::nodes;
 use rules::model::TileId;
 use rules::model::TileTree;
 use rules::refusal::Answer;
 use rules::refusal::Refusal;
+ghost use mathlib.Core.List.{[]};
 ghost use mathlib.Core.Path.{_≡_};
 ghost use mathlib.Core.Bool.{Bool, _&&_};
-ghost use mathlib.Core.List.{[]};
 ghost use Prim.Native.Nat.{ℕ, _+_, _≤_};
 ghost use lib.ListN.{length, getD};
 ghost use Rattle.rules.specs.Lists.{anyOf};
@@ -20,14 +24,14 @@ ghost use Rattle.rules.specs.Tree.{view, overSlot};
 ghost use Rattle.rules.specs.Repair as Rule;
 ghost use Rattle.rules.specs.Sound.{isAccepted, isNone, sound};
 ghost use Rattle.rules.specs.declared.refusal.Answer.the-variants as Answers;
-ghost use Rattle.repair.specs.Columns.{nodesFrom, Slim};
-ghost use Rattle.repair.specs.Pack.{reported};
-ghost use Rattle.repair.specs.Whole.{repaired, Repairs, Refuses, Finishes, Plants};
+ghost use Rattle.columns.specs.Columns.{nodesFrom, Slim};
+ghost use Rattle.columns.specs.Pack.{reported};
+ghost use Rattle.repair.specs.Whole.{repaired, Normalizes, Refuses, Finishes, Plants};
 
 fn refused(t: TileTree, e: Refusal) -> Repairing
     ensures { λ r. ⌜ Refuses t e r ⌝ }
 {
-    let actions = columns::no_report();
+    let actions = listing::no_report();
     Repairing {
         answer: Answer::Refused(e),
         tree: t,
@@ -63,9 +67,9 @@ fn finish(
     even(ids, shares, minima);
     let mut heads = given;
     let mut acts = listed;
-    let m = columns::sweep(&mut heads, &claimed, &mut acts, n);
-    let slots = columns::pack(heads, ids, shares, minima);
-    let actions = columns::report(&acts, m);
+    let m = sweep::sweep(&mut heads, &claimed, &mut acts, n);
+    let slots = pack::pack(heads, ids, shares, minima);
+    let actions = listing::report(&acts, m);
     let top = TileId { slot: root };
     let tree = TileTree {
         root: top,
@@ -115,23 +119,22 @@ fn plant(
     )
 }
 
-// normalize_with_report, of a tree whose lists are all there.
-fn normalize_with_report(t: TileTree) -> Repairing
+// normalize_with_report, of a tree whose lists are all there. A fresh root goes into the spare slot; 64 stands for no slot.
+pub fn normalize_with_report(t: TileTree, spare: u64) -> Repairing
     requires { ⌜ anyOf overSlot (t .slots) ≡ Bool.false ⌝ }
-    ensures { λ r. ⌜ Repairs t r ⌝ }
+    ensures { λ r. ⌜ Normalizes t spare r ⌝ }
 {
     let slots = t.slots;
     let top = t.root;
-    lone::sized(slots);
-    let mut heads = columns::heads_of(slots);
-    let mut ids = columns::ids_of(slots);
-    let mut shares = columns::shares_of(slots);
-    let mut minima = columns::minima_of(slots);
+    slots::sized(slots);
+    let mut heads = unpack::heads_of(slots);
+    let mut ids = unpack::ids_of(slots);
+    let mut shares = unpack::shares_of(slots);
+    let mut minima = unpack::minima_of(slots);
     let mut claimed = [false; 64];
     let mut seen = [0u64; 1024];
     let mut acts = [[0u64; 3]; 1300];
-    let spare = columns::first_empty(&heads);
-    let w = normalize::normalize_node(
+    let w = nodes::normalize_node(
         &mut heads,
         &mut ids,
         &mut shares,
@@ -166,10 +169,12 @@ pub fn repair(t: TileTree) -> Repairing
     ensures { λ r. ⌜ (repaired r ≡ Rule.repair (view t)) × ((e : Refusal) → r .answer ≡ Answers.Refused e → r .tree ≡ t) ⌝ }
 {
     let slots = t.slots;
-    if columns::over(slots) {
+    slots::sized(slots);
+    if unpack::over(slots) {
         return refused(t, Refusal::TooWide);
     }
-    normalize_with_report(t)
+    let spare = slots::first_empty(slots);
+    normalize_with_report(t, spare)
 }
 
 // Accepted, and nothing was done.
@@ -191,7 +196,7 @@ pub fn is_sound(t: TileTree) -> bool
     ensures { λ r. ⌜ r ≡ sound (view t) ⌝ }
 {
     let slots = t.slots;
-    lone::sized(slots);
+    slots::sized(slots);
     let r = repair(t);
     if is_untouched(r) {
         return true;

@@ -4,7 +4,7 @@ use mathlib.Core.Bool.{_&&_}
 use native.Mathlib.Omega.{arith}
 use Rattle.rules.specs.Sound.{isAccepted, isNone}
 use Rattle.rules.specs.declared.refusal.Answer.{Answer}
-use Rattle.repair.specs.Pack.{reported}
+use Rattle.columns.specs.Pack.{reported}
 use Rattle.repair.proofs.WholeLaws.{none-listed}
 use borrow.Author.Needs.{needs}
 use Rattle.repair.proofs.whole.is_untouched.Statement.{statement}

@@ -6,7 +6,7 @@ use native.Mathlib.Omega.{arith}
 use lib.ListN.{set}
 use Rattle.rules.specs.Tree.{Node}
 use Rattle.repair.specs.Whole.{Finishes}
-use Rattle.repair.proofs.ColumnLaws.{nodes-head, slim-set}
+use Rattle.columns.specs.ColumnLaws.{nodes-head, slim-set}
 use borrow.Author.Needs.{needs}
 use Rattle.repair.proofs.whole.plant.Statement.{statement}
 use Rattle.repair.proofs.whole.plant.Tie as tie
