@@ -1,5 +1,5 @@
 -- Laws of the stream's pushes and of what is left of a list in a loop, over plain values. Assumes nothing.
-use mathlib.Core.Path.{_≡_, refl, sym, ap, subst, _∙_}
+use mathlib.Core.Path.{_≡_, refl, sym, ap, _∙_}
 use mathlib.Core.Bool.{Bool, true, false, _&&_}
 use mathlib.Core.List.{List, [], _∷_, _++_, map, append-assoc}
 use Prim.Native.Nat.{ℕ, zero, suc, _+_, _-_, _≤_, _<_, min}
@@ -19,12 +19,10 @@ use Rattle.rules.specs.Tree.{tile, samePlacement}
 use Rattle.rules.specs.Frame.{Item, focusItem, focusItems, aPane, aBar, aTab, tabsFrom, barItems, groupItems, layoutTabsBy, layoutTabs, aChild, aHandle, handleBy, isMore, alongRect, layoutKids}
 use Rattle.rules.specs.declared.model.TileId.{TileId}
 use Rattle.rules.specs.declared.model.Axis.{Axis}
-use Rattle.rules.specs.declared.model.Axis.the-variants.{Vertical}
 use Rattle.rules.specs.declared.model.TabBarPlacement.{TabBarPlacement}
-use Rattle.rules.specs.declared.model.TabBarPlacement.the-variants.{Hidden, Right}
+use Rattle.rules.specs.declared.model.TabBarPlacement.the-variants.{Hidden}
 use Rattle.rules.specs.declared.frame.Rect.{Rect}
 use Rattle.rules.specs.declared.frame.LayoutInput.{LayoutInput}
-use Rattle.repair.specs.Columns.{barFrom, axisFrom}
 use Rattle.util.specs.Entries.{length-minMajor}
 use Rattle.lists.specs.Places.{length-tabulate, tabulate-at}
 use Rattle.layout.specs.Stream.{Stream, stream, pushItem, pushAll, handleIf, noRect}
@@ -36,17 +34,6 @@ and-on {b = b} t = λ i. sym t i && b
 
 pub and-off : {a : Bool} → a ≡ false → (b : Bool) → a ≡ (a && b)
 and-off t b = t ∙ (λ i. sym t i && b)
-
-pub axis-other : (n : ℕ) → (n ≡ 0 → ⊥) → Vertical ≡ axisFrom n
-axis-other zero h = absurd (h refl)
-axis-other (suc n) h = refl
-
-pub bar-other : (n : ℕ) → (n ≡ 0 → ⊥) → (n ≡ 1 → ⊥) → (n ≡ 2 → ⊥) → (n ≡ 3 → ⊥) → Right ≡ barFrom n
-bar-other zero a b c d = absurd (a refl)
-bar-other (suc zero) a b c d = absurd (b refl)
-bar-other (suc (suc zero)) a b c d = absurd (c refl)
-bar-other (suc (suc (suc zero))) a b c d = absurd (d refl)
-bar-other (suc (suc (suc (suc n)))) a b c d = refl
 
 -- ---- pushes
 

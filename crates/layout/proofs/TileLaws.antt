@@ -13,8 +13,8 @@ use Rattle.rules.specs.declared.model.TileId.{TileId}
 use Rattle.rules.specs.declared.model.Axis.{Axis}
 use Rattle.rules.specs.declared.frame.Rect.{Rect}
 use Rattle.rules.specs.declared.frame.LayoutInput.{LayoutInput}
-use Rattle.repair.specs.Columns.{barFrom, axisFrom, nodeBy, nodeFrom, nodesFrom}
-use Rattle.repair.proofs.ColumnLaws.{nodes-at, split-of}
+use Rattle.columns.specs.Columns.{barFrom, axisFrom, nodeBy, nodeFrom, nodesFrom}
+use Rattle.columns.specs.ColumnLaws.{nodes-at, split-of}
 use Rattle.layout.specs.Stream.{Stream, pushItem, pushAll}
 use Rattle.layout.specs.Grid.{Grid}
 use Rattle.layout.proofs.Laws.{push-none, push-one, push-cons}

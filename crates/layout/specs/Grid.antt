@@ -4,7 +4,7 @@ use mathlib.Core.List.{List, []}
 use Prim.Native.Nat.{ℕ}
 use lib.ListN.{length, getD}
 use lib.Ieee.{Float}
-use Rattle.repair.specs.Columns.{Slim}
+use Rattle.columns.specs.Columns.{Slim}
 
 pub record Grid (hs xs : List (List ℕ)) (ss ms : List (List Float)) : Type 0 where
   pub heads : length hs ≡ 64

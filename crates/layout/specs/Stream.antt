@@ -13,7 +13,7 @@ use Rattle.rules.specs.Frame.{Item, focusItem, paneItem, barItem, tabItem, chil
 use Rattle.rules.specs.declared.model.TileId.{TileId}
 use Rattle.rules.specs.declared.model.Axis.{Axis}
 use Rattle.rules.specs.declared.frame.Rect.{Rect}
-use Rattle.repair.specs.Columns.{barFrom, axisFrom}
+use Rattle.columns.specs.Columns.{barFrom, axisFrom}
 
 -- ---- an item as numbers: its kind, its tile, the pane (or a split's child), the index, and the mode (a bar's placement, a tab's being active, a handle's axis)
 

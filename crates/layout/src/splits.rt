@@ -9,7 +9,7 @@ ghost use Prim.Native.Nat.{_-_, _≤_};
 ghost use lib.ListN.{length, getD, take};
 ghost use Rattle.rules.specs.Tree.{reals};
 ghost use Rattle.rules.specs.Frame as Rule;
-ghost use Rattle.repair.specs.Columns.{Slim, axisFrom};
+ghost use Rattle.columns.specs.Columns.{Slim, axisFrom};
 
 // The axis whose number stands in a split's head.
 pub fn axis_of(mode: u64) -> Axis

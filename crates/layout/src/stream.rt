@@ -82,7 +82,7 @@ pub fn push_bar(
 ) -> usize
     ensures { λ r. ⌜ stream (now (items .exit)) (now (rects .exit)) r ≡ pushItem (aBar (tile id) rect placement pane) (stream (now (items .entry)) (now (rects .entry)) n) ⌝ }
 {
-    let mode = repair::columns::bar_code(placement);
+    let mode = columns::unpack::bar_code(placement);
     push(items, rects, n, [TAB_BAR, id, pane, 0, mode], rect)
 }
 

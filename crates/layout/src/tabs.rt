@@ -10,7 +10,7 @@ ghost use Rattle.rules.specs.Tree.{tile, samePlacement};
 ghost use Rattle.rules.specs.Tabs.{tabRects};
 ghost use Rattle.rules.specs.Frame.{focusItems, tabsFrom, barItems, layoutTabs};
 ghost use Rattle.rules.specs.declared.model.TabBarPlacement.the-variants as Placements;
-ghost use Rattle.repair.specs.Columns.{Slim, barFrom};
+ghost use Rattle.columns.specs.Columns.{Slim, barFrom};
 ghost use Rattle.layout.specs.Stream as Streams;
 
 // The placement whose number stands in a group's head.

@@ -12,7 +12,7 @@ ghost use Prim.Native.Nat.{_≤_, _<_};
 ghost use lib.ListN.{getD, take};
 ghost use Rattle.rules.specs.Tree.{tile};
 ghost use Rattle.rules.specs.Frame as Rule;
-ghost use Rattle.repair.specs.Columns.{nodesFrom, axisFrom};
+ghost use Rattle.columns.specs.Columns.{nodesFrom, axisFrom};
 ghost use Rattle.layout.specs.Stream as Streams;
 ghost use Rattle.layout.specs.Grid.{Grid};
 

@@ -1,5 +1,5 @@
 -- `layout::splits::axis_of`: any number but 0 is vertical. Assumes nothing.
-use Rattle.layout.proofs.Laws.{axis-other}
+use Rattle.columns.specs.PackLaws.{axis-other}
 use borrow.Author.Needs.{needs}
 use Rattle.layout.proofs.splits.axis_of.Statement.{statement}
 use Rattle.layout.proofs.splits.axis_of.Tie as tie

@@ -8,7 +8,7 @@ use lib.Seq.{getD-take, length-take-le}
 use Rattle.rules.specs.Tree.{tile}
 use Rattle.rules.specs.Frame.{aPane, layoutTabs}
 use Rattle.rules.specs.declared.model.TabBarPlacement.{TabBarPlacement}
-use Rattle.repair.specs.Columns.{barFrom}
+use Rattle.columns.specs.Columns.{barFrom}
 use Rattle.layout.specs.Stream.{stream, pushItem, pushAll}
 use Rattle.layout.proofs.Laws.{group-none, group-some}
 use borrow.Author.Needs.{needs}

@@ -1,5 +1,5 @@
 -- `layout::tabs::placement_of`: any number over 3 is the right side. Assumes nothing.
-use Rattle.layout.proofs.Laws.{bar-other}
+use Rattle.columns.specs.PackLaws.{bar-other}
 use borrow.Author.Needs.{needs}
 use Rattle.layout.proofs.tabs.placement_of.Statement.{statement}
 use Rattle.layout.proofs.tabs.placement_of.Tie as tie

@@ -8,7 +8,7 @@ use lib.ListN.{length, getD, take, drop}
 use lib.Ieee.{ofBits}
 use Rattle.rules.specs.Tree.{tile, reals}
 use Rattle.rules.specs.Frame.{layoutKids, layoutTile}
-use Rattle.repair.specs.Columns.{nodesFrom}
+use Rattle.columns.specs.Columns.{nodesFrom}
 use Rattle.layout.specs.Stream.{stream, pushAll}
 use Rattle.layout.proofs.Laws.{kids-more, kids-done}
 use Rattle.layout.proofs.TileLaws.{tile-zero, tile-past, tile-empty, tile-pane, tile-tabs, tile-split, split-done}
