@@ -1,3 +1,4 @@
 -- What the layout's contracts say beside the rules.
 pub mod Stream
 pub mod Grid
+pub mod Whole
