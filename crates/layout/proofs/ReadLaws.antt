@@ -71,7 +71,7 @@ module _ (x : Item) (s : Stream) (li : length (s .items) ≡ 2304) (lr : length 
       let er : take (s .len + 1) (one .rects) ≡ take (s .len) (s .rects) ++ sides (rectOf x) ∷ [] = ap (λ (k : ℕ). take k (one .rects)) (add-one (s .len)) ∙ take-suc-set (s .rects) (s .len) (sides (rectOf x)) (omega arith) in
       (λ z. itemsFrom (ei z) (er z))
       ∙ items-more (take (s .len) (s .items)) (take (s .len) (s .rects)) (codeOf x) (sides (rectOf x))
-          (length-take-le (s .len) (s .items) (omega arith) ∙ sym (length-take-le (s .len) (s .rects) (omega arith)))
+      (length-take-le (s .len) (s .items) (omega arith) ∙ sym (length-take-le (s .len) (s .rects) (omega arith)))
       ∙ ap (λ (y : Item). itemsIn s ++ y ∷ []) (code-back x)
 
 pub wrote-all : (xs : List Item) (s : Stream) → length (s .items) ≡ 2304 → length (s .rects) ≡ 2304 → s .len + length xs ≤ 2304 → Wrote s xs (pushAll xs s)

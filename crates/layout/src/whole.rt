@@ -30,6 +30,24 @@ fn root_row(ids: &[[u64; 16]; 64], root: u64)
     }
 }
 
+// The length of the arrays that are lent, which only one by value tells.
+fn item_places(items: [[u64; 5]; 2304])
+    ensures { λ r. ⌜ length items ≡ 2304 ⌝ }
+{}
+
+fn rect_places(rects: [[f64; 4]; 2304])
+    ensures { λ r. ⌜ length rects ≡ 2304 ⌝ }
+{}
+
+fn measured(items: &[[u64; 5]; 2304], rects: &[[f64; 4]; 2304])
+    ensures { λ r. ⌜ (length (now (items .entry)) ≡ 2304) × (length (now (rects .entry)) ≡ 2304) ⌝ }
+{
+    let a = *items;
+    item_places(a);
+    let b = *rects;
+    rect_places(b);
+}
+
 // The walk, from the root of a sound tree.
 fn place(
     t: TileTree,
@@ -38,7 +56,7 @@ fn place(
     rects: &mut [[f64; 4]; 2304],
 ) -> usize
     requires { ⌜ sound (view t) ≡ Bool.true ⌝ }
-    ensures { λ r. ⌜ Streams.stream (now (items .exit)) (now (rects .exit)) r ≡ Streams.pushAll (layoutItems (view t) input) (Streams.stream (now (items .entry)) (now (rects .entry)) 0) ⌝ }
+    ensures { λ r. ⌜ (Streams.stream (now (items .exit)) (now (rects .exit)) r ≡ Streams.pushAll (layoutItems (view t) input) (Streams.stream (now (items .entry)) (now (rects .entry)) 0)) × (length (t .slots) ≡ 64) ⌝ }
 {
     let slots = t.slots;
     let top = t.root;
@@ -50,7 +68,17 @@ fn place(
     root_row(&ids, top.slot);
     let bounds = input.bounds;
     tiles::layout_tile(
-        &heads, &ids, &shares, &minima, items, rects, 0, top.slot, bounds, input, 64,
+        &heads,
+        &ids,
+        &shares,
+        &minima,
+        items,
+        rects,
+        0,
+        top.slot,
+        bounds,
+        input,
+        64,
     )
 }
 
@@ -80,6 +108,7 @@ pub fn layout_into(
     if !input::input_ok(input) {
         return refused(t, Refusal::BadInput);
     }
+    measured(items, rects);
     let plain = input::plus_input(input);
     let len = place(t, plain, items, rects);
     LaidOut {
