@@ -55,6 +55,7 @@ items-more (d ∷ cs) (u ∷ qs) c q e = ap (λ (l : List Item). itemFrom d u �
 pub record Wrote (s : Stream) (xs : List Item) (s′ : Stream) : Type 0 where
   pub size : s′ .len ≡ s .len + length xs
   pub front : itemsIn s′ ≡ itemsIn s ++ xs
+  pub long : (length (s′ .items) ≡ length (s .items)) × (length (s′ .rects) ≡ length (s .rects))
   pub items : (k : ℕ) → s′ .len ≤ k → drop k (s′ .items) ≡ drop k (s .items)
   pub rects : (k : ℕ) → s′ .len ≤ k → drop k (s′ .rects) ≡ drop k (s .rects)
 
@@ -76,7 +77,7 @@ module _ (x : Item) (s : Stream) (li : length (s .items) ≡ 2304) (lr : length 
 
 pub wrote-all : (xs : List Item) (s : Stream) → length (s .items) ≡ 2304 → length (s .rects) ≡ 2304 → s .len + length xs ≤ 2304 → Wrote s xs (pushAll xs s)
 unfolding pushAll
-wrote-all [] s li lr h = record { size = omega arith; front = sym (append-nil (itemsIn s)); items = λ k p. refl; rects = λ k p. refl }
+wrote-all [] s li lr h = record { size = omega arith; front = sym (append-nil (itemsIn s)); long = (refl, refl); items = λ k p. refl; rects = λ k p. refl }
 wrote-all (x ∷ xs) s li lr h =
     let o = one x s li lr (omega arith) in
     let W = wrote-all xs o (length-set (s .items) (s .len) (codeOf x) ∙ li) (length-set (s .rects) (s .len) (sides (rectOf x)) ∙ lr) (omega arith) in
@@ -84,6 +85,7 @@ wrote-all (x ∷ xs) s li lr h =
     record {
       size = omega (arith, W .size);
       front = W .front ∙ ap (λ (l : List Item). l ++ xs) (one-front x s li lr (omega arith)) ∙ append-assoc (itemsIn s) (x ∷ []) xs;
+      long = (W .long .0 ∙ length-set (s .items) (s .len) (codeOf x), W .long .1 ∙ length-set (s .rects) (s .len) (sides (rectOf x)));
       items = λ k p. W .items k p ∙ drop-set-lt k (s .items) (s .len) (codeOf x) (omega (arith, W .size));
       rects = λ k p. W .rects k p ∙ drop-set-lt k (s .rects) (s .len) (sides (rectOf x)) (omega (arith, W .size));
     }

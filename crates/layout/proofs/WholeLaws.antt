@@ -74,6 +74,7 @@ module _ (t : TileTree) (i : LayoutInput) where
           items = λ p. absurd (told p a);
           few = omega arith;
           untouched = λ f p. (l, refl, refl);
+          long = (refl, refl);
           rest = (refl, refl);
         }
 
@@ -97,5 +98,6 @@ module _ (t : TileTree) (i : LayoutInput) where
           items = λ q. all;
           few = omega (arith, W .size);
           untouched = λ x q. absurd (told refl q);
+          long = W .long;
           rest = (W .items n (omega arith), W .rects n (omega arith));
         }

@@ -5,7 +5,7 @@ use mathlib.Core.List.{List, [], _∷_}
 use Prim.Native.Nat.{ℕ, zero, suc, _+_}
 use lib.Dec.{ltb}
 use lib.ListN.{getD, set, take}
-use lib.Ieee.{Float}
+use lib.Ieee.{Float, nan}
 use Rattle.rules.specs.Numbers.{zero-f}
 use Rattle.rules.specs.Tabs.{rect}
 use Rattle.rules.specs.Tree.{tile, barCode, axisCode}
@@ -53,8 +53,9 @@ abbrev pub flagFrom : ℕ → Bool
 flagFrom zero = false
 flagFrom (suc n) = true
 
+-- of a row of four; a NaN would stand for a missing number
 abbrev pub rectFrom : List Float → Rect
-rectFrom q = rect (getD q 0 zero-f) (getD q 1 zero-f) (getD q 2 zero-f) (getD q 3 zero-f)
+rectFrom q = rect (getD q 0 nan) (getD q 1 nan) (getD q 2 nan) (getD q 3 nan)
 
 -- a kind past the last is a handle
 abbrev pub itemBy : ℕ → List ℕ → Rect → Item

@@ -2,7 +2,7 @@
 use mathlib.Core.Path.{_≡_}
 use Prim.Native.Nat.{ℕ, _≤_}
 use mathlib.Core.List.{List}
-use lib.ListN.{drop}
+use lib.ListN.{length, drop}
 use lib.Ieee.{Float}
 use Rattle.rules.specs.Tree.{view}
 use Rattle.rules.specs.Frame.{Laid, frameOf, layoutItems, plusInput, layout}
@@ -26,4 +26,5 @@ pub record LaysOut (t : TileTree) (i : LayoutInput) (cs : List (List ℕ)) (qs :
   -- a refusal writes nothing
   pub untouched : (e : Refusal) → r .answer ≡ Refused e → (r .len ≡ 0) × (cs′ ≡ cs) × (qs′ ≡ qs)
   -- and what is not in use is as it was
+  pub long : (length cs′ ≡ length cs) × (length qs′ ≡ length qs)
   pub rest : (drop (r .len) cs′ ≡ drop (r .len) cs) × (drop (r .len) qs′ ≡ drop (r .len) qs)

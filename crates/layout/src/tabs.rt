@@ -14,7 +14,7 @@ ghost use Rattle.columns.specs.Columns.{Slim, barFrom};
 ghost use Rattle.layout.specs.Stream as Streams;
 
 // The placement whose number stands in a group's head.
-fn placement_of(mode: u64) -> TabBarPlacement
+pub fn placement_of(mode: u64) -> TabBarPlacement
     ensures { λ r. ⌜ r ≡ barFrom mode ⌝ }
 {
     match mode {
