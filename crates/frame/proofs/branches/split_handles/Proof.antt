@@ -11,10 +11,6 @@ use Rattle.frame.specs.Lists.{handleFrom}
 use Rattle.frame.proofs.Laws.{Going, going-none, going-skip, going-take, going-done, room-left, handle-by}
 use Rattle.frame.proofs.branches.split_handles.Statement.{statement}
 use Rattle.frame.proofs.branches.split_handles.Tie as tie
-use Rattle.frame.proofs.branches.split_handles.Reads as reads
-use Rattle.frame.proofs.branches.split_handles.Lts as lts
-use Rattle.frame.proofs.decode.handle_of.Reads as handle-of-reads
-use Rattle.frame.proofs.decode.takes.Reads as takes-reads
 
 abbrev Inv-loop : tie.InvT-loop
 Inv-loop items rects n at₀ len₀ i₀ at len i = Going handleOf 64 items rects n at₀ at len i
@@ -22,41 +18,32 @@ Inv-loop items rects n at₀ len₀ i₀ at len i = Going handleOf 64 items rect
 abbrev μ-loop : tie.MeasureT-loop
 μ-loop items rects n at₀ len₀ i₀ at len i = n - i
 
--- src/branches.rt:42:9
 handle-of-requires : tie.Need-handle-of-requires Inv-loop μ-loop
 handle-of-requires c κs = tt
 
--- src/branches.rt:46:5
 loop-holds : tie.Need-loop-holds Inv-loop μ-loop
 loop-holds c = going-none handleOf 64 (c .before .args .items .now) (c .before .args .rects .now) (c .before .args .n) (replicate 64 (c .handle-of .result))
 
--- src/branches.rt:47:19
 mul-row : tie.Need-mul-row Inv-loop μ-loop
 mul-row c = omega arith
 
--- src/branches.rt:47:19
 element-copy-out-row : tie.Need-element-copy-out-row Inv-loop μ-loop
 element-copy-out-row c = omega arith
 
--- src/branches.rt:48:49
 array-read-takes : tie.Need-array-read-takes Inv-loop μ-loop
 array-read-takes c = omega arith
 
--- src/branches.rt:48:13
 takes-requires : tie.Need-takes-requires Inv-loop μ-loop
 takes-requires c κs = tt
 
--- src/branches.rt:49:13
 add-i : tie.Need-add-i Inv-loop μ-loop
 add-i c = omega arith
 
--- src/branches.rt:46:5
 loop-less : tie.Need-loop-less Inv-loop μ-loop
 loop-less c = omega arith
 
--- src/branches.rt:46:5
 loop-again : tie.Need-loop-again Inv-loop μ-loop
-loop-again c = 
+loop-again c =
     let tk = c .before in
     let il = tk .before .before in
     let al = il .before in
@@ -70,56 +57,47 @@ loop-again c =
     let q = getD (a .rects .now) (l .i) [] in
     going-skip handleOf 64 (a .items .now) (a .rects .now) (a .n) li lr (replicate 64 (al .before .handle-of .result)) (l .at) (l .len) (l .i) (il .loop-test .taken) (l .inv) (handleFrom c₀ q) (ltb 4 (getD c₀ 0 0)) (handle-by c₀ q (getD c₀ 0 0)) (sym (tk .takes .ensures) ∙ not-true (tk .takes .result) (c .if1 .taken))
 
--- src/branches.rt:52:17
 mul-q : tie.Need-mul-q Inv-loop μ-loop
 mul-q c = omega arith
 
--- src/branches.rt:52:17
 element-copy-out-q : tie.Need-element-copy-out-q Inv-loop μ-loop
 element-copy-out-q c = omega arith
 
--- src/branches.rt:53:13
 handle-of-requires-2 : tie.Need-handle-of-requires-2 Inv-loop μ-loop
 handle-of-requires-2 c κs = tt
 
--- src/branches.rt:54:9
 mul-at : tie.Need-mul-at Inv-loop μ-loop
-mul-at c = 
+mul-at c =
     let tk = c .before .before .before in
     let il = tk .before .before in
     let l = il .before .loop in
     let h : l .len < 64 = room-left (ltb 4 (getD (getD (il .before .before .before .args .items .now) (l .i) []) 0 0)) (l .len) 64 (sym (tk .takes .ensures) ∙ not-false (tk .takes .result) (c .before .before .if1 .left)) in
     omega arith
 
--- src/branches.rt:54:9
 array-set-from-at : tie.Need-array-set-from-at Inv-loop μ-loop
-array-set-from-at c = 
+array-set-from-at c =
     let tk = c .before .before .before in
     let il = tk .before .before in
     let l = il .before .loop in
     let h : l .len < 64 = room-left (ltb 4 (getD (getD (il .before .before .before .args .items .now) (l .i) []) 0 0)) (l .len) 64 (sym (tk .takes .ensures) ∙ not-false (tk .takes .result) (c .before .before .if1 .left)) in
     omega arith
 
--- src/branches.rt:55:9
 add-len : tie.Need-add-len Inv-loop μ-loop
-add-len c = 
+add-len c =
     let tk = c .before .before .before in
     let il = tk .before .before in
     let l = il .before .loop in
     let h : l .len < 64 = room-left (ltb 4 (getD (getD (il .before .before .before .args .items .now) (l .i) []) 0 0)) (l .len) 64 (sym (tk .takes .ensures) ∙ not-false (tk .takes .result) (c .before .before .if1 .left)) in
     omega arith
 
--- src/branches.rt:56:9
 add-i-2 : tie.Need-add-i-2 Inv-loop μ-loop
 add-i-2 c = omega arith
 
--- src/branches.rt:46:5
 loop-less-2 : tie.Need-loop-less-2 Inv-loop μ-loop
 loop-less-2 c = omega arith
 
--- src/branches.rt:46:5
 loop-again-2 : tie.Need-loop-again-2 Inv-loop μ-loop
-loop-again-2 c = 
+loop-again-2 c =
     let tk = c .before .before .before in
     let il = tk .before .before in
     let al = il .before in
@@ -133,9 +111,8 @@ loop-again-2 c =
     let q = getD (a .rects .now) (l .i) [] in
     going-take handleOf 64 (a .items .now) (a .rects .now) (a .n) li lr (replicate 64 (al .before .handle-of .result)) (l .at) (l .len) (l .i) (il .loop-test .taken) (l .inv) (handleFrom c₀ q) (ltb 4 (getD c₀ 0 0)) (handle-by c₀ q (getD c₀ 0 0)) (sym (tk .takes .ensures) ∙ not-false (tk .takes .result) (c .before .before .if1 .left)) (c .handle-of2 .result) (c .handle-of2 .ensures)
 
--- src/branches.rt:38:1
 returns : tie.Need-returns Inv-loop μ-loop
-returns c = 
+returns c =
     let al = c .before in
     let st = al .before .before in
     let a = st .args in

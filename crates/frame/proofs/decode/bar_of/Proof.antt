@@ -4,32 +4,22 @@ use Rattle.rules.specs.Tree.{tile}
 use borrow.Author.Needs.{needs}
 use Rattle.frame.proofs.decode.bar_of.Statement.{statement}
 use Rattle.frame.proofs.decode.bar_of.Tie as tie
-use Rattle.frame.proofs.decode.bar_of.Reads as reads
-use Rattle.frame.proofs.decode.bar_of.Lts as lts
-use Rattle.frame.proofs.decode.rect_of.Reads as rect-of-reads
-use Rattle.layout.proofs.tabs.placement_of.Reads as placement-of-reads
 
--- src/decode.rt:64:32
 array-read-placement-of : tie.Need-array-read-placement-of
 array-read-placement-of c = search needs
 
--- src/decode.rt:65:9
 rect-of-requires : tie.Need-rect-of-requires
 rect-of-requires c κs = search needs
 
--- src/decode.rt:66:48
 array-read-placement-of-2 : tie.Need-array-read-placement-of-2
 array-read-placement-of-2 c = search needs
 
--- src/decode.rt:66:9
 placement-of-requires : tie.Need-placement-of-requires
 placement-of-requires c κs = search needs
 
--- src/decode.rt:71:22
 array-read-t9 : tie.Need-array-read-t9
 array-read-t9 c = search needs
 
--- src/decode.rt:61:1
 returns : tie.Need-returns
 returns c = let t = c .before .before .args .t1 in λ z. record { group = tile (getD t 1 0); rect = c .before .rect-of .ensures z; placement = c .placement-of .ensures z; «active_pane» = getD t 2 0 }
 

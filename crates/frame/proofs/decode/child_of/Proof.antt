@@ -4,27 +4,19 @@ use Rattle.rules.specs.Tree.{tile}
 use borrow.Author.Needs.{needs}
 use Rattle.frame.proofs.decode.child_of.Statement.{statement}
 use Rattle.frame.proofs.decode.child_of.Tie as tie
-use Rattle.frame.proofs.decode.child_of.Reads as reads
-use Rattle.frame.proofs.decode.child_of.Lts as lts
-use Rattle.frame.proofs.decode.rect_of.Reads as rect-of-reads
 
--- src/decode.rt:92:32
 array-read-t9 : tie.Need-array-read-t9
 array-read-t9 c = search needs
 
--- src/decode.rt:93:32
 array-read-t9-2 : tie.Need-array-read-t9-2
 array-read-t9-2 c = search needs
 
--- src/decode.rt:94:9
 rect-of-requires : tie.Need-rect-of-requires
 rect-of-requires c κs = search needs
 
--- src/decode.rt:98:16
 array-read-t9-3 : tie.Need-array-read-t9-3
 array-read-t9-3 c = search needs
 
--- src/decode.rt:89:1
 returns : tie.Need-returns
 returns c = let t = c .before .args .t1 in λ z. record { split = tile (getD t 1 0); child = tile (getD t 2 0); index = getD t 3 0; rect = c .rect-of .ensures z }
 

@@ -3,14 +3,10 @@ use Rattle.frame.proofs.Laws.{painted-other}
 use borrow.Author.Needs.{needs}
 use Rattle.frame.proofs.decode.is_painted.Statement.{statement}
 use Rattle.frame.proofs.decode.is_painted.Tie as tie
-use Rattle.frame.proofs.decode.is_painted.Reads as reads
-use Rattle.frame.proofs.decode.is_painted.Lts as lts
 
--- src/decode.rt:33:9
 returns : tie.Need-returns
 returns c = search needs
 
--- src/decode.rt:29:1
 returns-2 : tie.Need-returns-2
 returns-2 c = painted-other (c .before .args .kind) (c .if1 .left)
 

@@ -7,42 +7,31 @@ use Rattle.frame.proofs.Laws.{handle-other}
 use borrow.Author.Needs.{needs}
 use Rattle.frame.proofs.decode.item_of.Statement.{statement}
 use Rattle.frame.proofs.decode.item_of.Tie as tie
-use Rattle.frame.proofs.decode.item_of.Reads as reads
-use Rattle.frame.proofs.decode.item_of.Lts as lts
 
--- src/decode.rt:120:31
 array-read-kind : tie.Need-array-read-kind
 array-read-kind c = search needs
 
--- src/decode.rt:121:16
 array-read-kind-2 : tie.Need-array-read-kind-2
 array-read-kind-2 c = search needs
 
--- src/decode.rt:123:34
 array-read-t13 : tie.Need-array-read-t13
 array-read-t13 c = search needs
 
--- src/decode.rt:123:9
 returns : tie.Need-returns
 returns c = sym (ap (λ (k : ℕ). paintedBy k (c .before .args .t1)) (c .if1 .taken))
 
--- src/decode.rt:126:9
 returns-2 : tie.Need-returns-2
 returns-2 c = sym (ap (λ (k : ℕ). paintedBy k (c .before .before .args .t1)) (c .if2 .taken))
 
--- src/decode.rt:131:19
 array-read-t16 : tie.Need-array-read-t16
 array-read-t16 c = search needs
 
--- src/decode.rt:129:9
 returns-3 : tie.Need-returns-3
 returns-3 c = sym (ap (λ (k : ℕ). paintedBy k (c .before .before .before .args .t1)) (c .if3 .taken))
 
--- src/decode.rt:136:17
 array-read-t7 : tie.Need-array-read-t7
 array-read-t7 c = search needs
 
--- src/decode.rt:117:1
 returns-4 : tie.Need-returns-4
 returns-4 c =
     let t = c .before .before .before .args .t1 in

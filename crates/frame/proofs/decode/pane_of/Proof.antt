@@ -4,23 +4,16 @@ use Rattle.rules.specs.Tree.{tile}
 use borrow.Author.Needs.{needs}
 use Rattle.frame.proofs.decode.pane_of.Statement.{statement}
 use Rattle.frame.proofs.decode.pane_of.Tie as tie
-use Rattle.frame.proofs.decode.pane_of.Reads as reads
-use Rattle.frame.proofs.decode.pane_of.Lts as lts
-use Rattle.frame.proofs.decode.rect_of.Reads as rect-of-reads
 
--- src/decode.rt:52:31
 array-read-t8 : tie.Need-array-read-t8
 array-read-t8 c = search needs
 
--- src/decode.rt:53:9
 rect-of-requires : tie.Need-rect-of-requires
 rect-of-requires c κs = search needs
 
--- src/decode.rt:55:15
 array-read-t8-2 : tie.Need-array-read-t8-2
 array-read-t8-2 c = search needs
 
--- src/decode.rt:49:1
 returns : tie.Need-returns
 returns c = let t = c .before .args .t1 in λ z. record { pane = getD t 2 0; tile = tile (getD t 1 0); rect = c .rect-of .ensures z }
 

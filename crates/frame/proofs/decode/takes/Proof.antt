@@ -3,14 +3,10 @@ use Rattle.layout.proofs.Laws.{and-on}
 use borrow.Author.Needs.{needs}
 use Rattle.frame.proofs.decode.takes.Statement.{statement}
 use Rattle.frame.proofs.decode.takes.Tie as tie
-use Rattle.frame.proofs.decode.takes.Reads as reads
-use Rattle.frame.proofs.decode.takes.Lts as lts
 
--- src/decode.rt:23:9
 returns : tie.Need-returns
 returns c = and-on (c .if1 .taken)
 
--- src/decode.rt:19:1
 returns-2 : tie.Need-returns-2
 returns-2 c = search needs
 

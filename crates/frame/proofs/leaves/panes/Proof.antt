@@ -11,10 +11,6 @@ use Rattle.frame.specs.Lists.{paneFrom}
 use Rattle.frame.proofs.Laws.{Going, going-none, going-skip, going-take, going-done, room-left, pane-by}
 use Rattle.frame.proofs.leaves.panes.Statement.{statement}
 use Rattle.frame.proofs.leaves.panes.Tie as tie
-use Rattle.frame.proofs.leaves.panes.Reads as reads
-use Rattle.frame.proofs.leaves.panes.Lts as lts
-use Rattle.frame.proofs.decode.pane_of.Reads as pane-of-reads
-use Rattle.frame.proofs.decode.takes.Reads as takes-reads
 
 abbrev Inv-loop : tie.InvT-loop
 Inv-loop items rects n at₀ len₀ i₀ at len i = Going paneOf 64 items rects n at₀ at len i
@@ -22,41 +18,32 @@ Inv-loop items rects n at₀ len₀ i₀ at len i = Going paneOf 64 items rects 
 abbrev μ-loop : tie.MeasureT-loop
 μ-loop items rects n at₀ len₀ i₀ at len i = n - i
 
--- src/leaves.rt:19:9
 pane-of-requires : tie.Need-pane-of-requires Inv-loop μ-loop
 pane-of-requires c κs = tt
 
--- src/leaves.rt:23:5
 loop-holds : tie.Need-loop-holds Inv-loop μ-loop
 loop-holds c = going-none paneOf 64 (c .before .args .items .now) (c .before .args .rects .now) (c .before .args .n) (replicate 64 (c .pane-of .result))
 
--- src/leaves.rt:24:19
 mul-row : tie.Need-mul-row Inv-loop μ-loop
 mul-row c = omega arith
 
--- src/leaves.rt:24:19
 element-copy-out-row : tie.Need-element-copy-out-row Inv-loop μ-loop
 element-copy-out-row c = omega arith
 
--- src/leaves.rt:25:27
 array-read-takes : tie.Need-array-read-takes Inv-loop μ-loop
 array-read-takes c = omega arith
 
--- src/leaves.rt:25:13
 takes-requires : tie.Need-takes-requires Inv-loop μ-loop
 takes-requires c κs = tt
 
--- src/leaves.rt:26:13
 add-i : tie.Need-add-i Inv-loop μ-loop
 add-i c = omega arith
 
--- src/leaves.rt:23:5
 loop-less : tie.Need-loop-less Inv-loop μ-loop
 loop-less c = omega arith
 
--- src/leaves.rt:23:5
 loop-again : tie.Need-loop-again Inv-loop μ-loop
-loop-again c = 
+loop-again c =
     let tk = c .before in
     let il = tk .before .before in
     let al = il .before in
@@ -70,56 +57,47 @@ loop-again c =
     let q = getD (a .rects .now) (l .i) [] in
     going-skip paneOf 64 (a .items .now) (a .rects .now) (a .n) li lr (replicate 64 (al .before .pane-of .result)) (l .at) (l .len) (l .i) (il .loop-test .taken) (l .inv) (paneFrom c₀ q) (eqb (getD c₀ 0 0) 1) (pane-by c₀ q (getD c₀ 0 0)) (sym (tk .takes .ensures) ∙ not-true (tk .takes .result) (c .if1 .taken))
 
--- src/leaves.rt:29:17
 mul-q : tie.Need-mul-q Inv-loop μ-loop
 mul-q c = omega arith
 
--- src/leaves.rt:29:17
 element-copy-out-q : tie.Need-element-copy-out-q Inv-loop μ-loop
 element-copy-out-q c = omega arith
 
--- src/leaves.rt:30:13
 pane-of-requires-2 : tie.Need-pane-of-requires-2 Inv-loop μ-loop
 pane-of-requires-2 c κs = tt
 
--- src/leaves.rt:31:9
 mul-at : tie.Need-mul-at Inv-loop μ-loop
-mul-at c = 
+mul-at c =
     let tk = c .before .before .before in
     let il = tk .before .before in
     let l = il .before .loop in
     let h : l .len < 64 = room-left (eqb (getD (getD (il .before .before .before .args .items .now) (l .i) []) 0 0) 1) (l .len) 64 (sym (tk .takes .ensures) ∙ not-false (tk .takes .result) (c .before .before .if1 .left)) in
     omega arith
 
--- src/leaves.rt:31:9
 array-set-from-at : tie.Need-array-set-from-at Inv-loop μ-loop
-array-set-from-at c = 
+array-set-from-at c =
     let tk = c .before .before .before in
     let il = tk .before .before in
     let l = il .before .loop in
     let h : l .len < 64 = room-left (eqb (getD (getD (il .before .before .before .args .items .now) (l .i) []) 0 0) 1) (l .len) 64 (sym (tk .takes .ensures) ∙ not-false (tk .takes .result) (c .before .before .if1 .left)) in
     omega arith
 
--- src/leaves.rt:32:9
 add-len : tie.Need-add-len Inv-loop μ-loop
-add-len c = 
+add-len c =
     let tk = c .before .before .before in
     let il = tk .before .before in
     let l = il .before .loop in
     let h : l .len < 64 = room-left (eqb (getD (getD (il .before .before .before .args .items .now) (l .i) []) 0 0) 1) (l .len) 64 (sym (tk .takes .ensures) ∙ not-false (tk .takes .result) (c .before .before .if1 .left)) in
     omega arith
 
--- src/leaves.rt:33:9
 add-i-2 : tie.Need-add-i-2 Inv-loop μ-loop
 add-i-2 c = omega arith
 
--- src/leaves.rt:23:5
 loop-less-2 : tie.Need-loop-less-2 Inv-loop μ-loop
 loop-less-2 c = omega arith
 
--- src/leaves.rt:23:5
 loop-again-2 : tie.Need-loop-again-2 Inv-loop μ-loop
-loop-again-2 c = 
+loop-again-2 c =
     let tk = c .before .before .before in
     let il = tk .before .before in
     let al = il .before in
@@ -133,9 +111,8 @@ loop-again-2 c =
     let q = getD (a .rects .now) (l .i) [] in
     going-take paneOf 64 (a .items .now) (a .rects .now) (a .n) li lr (replicate 64 (al .before .pane-of .result)) (l .at) (l .len) (l .i) (il .loop-test .taken) (l .inv) (paneFrom c₀ q) (eqb (getD c₀ 0 0) 1) (pane-by c₀ q (getD c₀ 0 0)) (sym (tk .takes .ensures) ∙ not-false (tk .takes .result) (c .before .before .if1 .left)) (c .pane-of2 .result) (c .pane-of2 .ensures)
 
--- src/leaves.rt:15:1
 returns : tie.Need-returns Inv-loop μ-loop
-returns c = 
+returns c =
     let al = c .before in
     let st = al .before .before in
     let a = st .args in

@@ -11,10 +11,6 @@ use Rattle.frame.specs.Lists.{barFrameFrom}
 use Rattle.frame.proofs.Laws.{Going, going-none, going-skip, going-take, going-done, room-left, bar-by}
 use Rattle.frame.proofs.leaves.tab_bars.Statement.{statement}
 use Rattle.frame.proofs.leaves.tab_bars.Tie as tie
-use Rattle.frame.proofs.leaves.tab_bars.Reads as reads
-use Rattle.frame.proofs.leaves.tab_bars.Lts as lts
-use Rattle.frame.proofs.decode.bar_of.Reads as bar-of-reads
-use Rattle.frame.proofs.decode.takes.Reads as takes-reads
 
 abbrev Inv-loop : tie.InvT-loop
 Inv-loop items rects n at₀ len₀ i₀ at len i = Going barOf 64 items rects n at₀ at len i
@@ -22,41 +18,32 @@ Inv-loop items rects n at₀ len₀ i₀ at len i = Going barOf 64 items rects n
 abbrev μ-loop : tie.MeasureT-loop
 μ-loop items rects n at₀ len₀ i₀ at len i = n - i
 
--- src/leaves.rt:43:9
 bar-of-requires : tie.Need-bar-of-requires Inv-loop μ-loop
 bar-of-requires c κs = tt
 
--- src/leaves.rt:47:5
 loop-holds : tie.Need-loop-holds Inv-loop μ-loop
 loop-holds c = going-none barOf 64 (c .before .args .items .now) (c .before .args .rects .now) (c .before .args .n) (replicate 64 (c .bar-of .result))
 
--- src/leaves.rt:48:19
 mul-row : tie.Need-mul-row Inv-loop μ-loop
 mul-row c = omega arith
 
--- src/leaves.rt:48:19
 element-copy-out-row : tie.Need-element-copy-out-row Inv-loop μ-loop
 element-copy-out-row c = omega arith
 
--- src/leaves.rt:49:27
 array-read-takes : tie.Need-array-read-takes Inv-loop μ-loop
 array-read-takes c = omega arith
 
--- src/leaves.rt:49:13
 takes-requires : tie.Need-takes-requires Inv-loop μ-loop
 takes-requires c κs = tt
 
--- src/leaves.rt:50:13
 add-i : tie.Need-add-i Inv-loop μ-loop
 add-i c = omega arith
 
--- src/leaves.rt:47:5
 loop-less : tie.Need-loop-less Inv-loop μ-loop
 loop-less c = omega arith
 
--- src/leaves.rt:47:5
 loop-again : tie.Need-loop-again Inv-loop μ-loop
-loop-again c = 
+loop-again c =
     let tk = c .before in
     let il = tk .before .before in
     let al = il .before in
@@ -70,56 +57,47 @@ loop-again c =
     let q = getD (a .rects .now) (l .i) [] in
     going-skip barOf 64 (a .items .now) (a .rects .now) (a .n) li lr (replicate 64 (al .before .bar-of .result)) (l .at) (l .len) (l .i) (il .loop-test .taken) (l .inv) (barFrameFrom c₀ q) (eqb (getD c₀ 0 0) 2) (bar-by c₀ q (getD c₀ 0 0)) (sym (tk .takes .ensures) ∙ not-true (tk .takes .result) (c .if1 .taken))
 
--- src/leaves.rt:53:17
 mul-q : tie.Need-mul-q Inv-loop μ-loop
 mul-q c = omega arith
 
--- src/leaves.rt:53:17
 element-copy-out-q : tie.Need-element-copy-out-q Inv-loop μ-loop
 element-copy-out-q c = omega arith
 
--- src/leaves.rt:54:13
 bar-of-requires-2 : tie.Need-bar-of-requires-2 Inv-loop μ-loop
 bar-of-requires-2 c κs = tt
 
--- src/leaves.rt:55:9
 mul-at : tie.Need-mul-at Inv-loop μ-loop
-mul-at c = 
+mul-at c =
     let tk = c .before .before .before in
     let il = tk .before .before in
     let l = il .before .loop in
     let h : l .len < 64 = room-left (eqb (getD (getD (il .before .before .before .args .items .now) (l .i) []) 0 0) 2) (l .len) 64 (sym (tk .takes .ensures) ∙ not-false (tk .takes .result) (c .before .before .if1 .left)) in
     omega arith
 
--- src/leaves.rt:55:9
 array-set-from-at : tie.Need-array-set-from-at Inv-loop μ-loop
-array-set-from-at c = 
+array-set-from-at c =
     let tk = c .before .before .before in
     let il = tk .before .before in
     let l = il .before .loop in
     let h : l .len < 64 = room-left (eqb (getD (getD (il .before .before .before .args .items .now) (l .i) []) 0 0) 2) (l .len) 64 (sym (tk .takes .ensures) ∙ not-false (tk .takes .result) (c .before .before .if1 .left)) in
     omega arith
 
--- src/leaves.rt:56:9
 add-len : tie.Need-add-len Inv-loop μ-loop
-add-len c = 
+add-len c =
     let tk = c .before .before .before in
     let il = tk .before .before in
     let l = il .before .loop in
     let h : l .len < 64 = room-left (eqb (getD (getD (il .before .before .before .args .items .now) (l .i) []) 0 0) 2) (l .len) 64 (sym (tk .takes .ensures) ∙ not-false (tk .takes .result) (c .before .before .if1 .left)) in
     omega arith
 
--- src/leaves.rt:57:9
 add-i-2 : tie.Need-add-i-2 Inv-loop μ-loop
 add-i-2 c = omega arith
 
--- src/leaves.rt:47:5
 loop-less-2 : tie.Need-loop-less-2 Inv-loop μ-loop
 loop-less-2 c = omega arith
 
--- src/leaves.rt:47:5
 loop-again-2 : tie.Need-loop-again-2 Inv-loop μ-loop
-loop-again-2 c = 
+loop-again-2 c =
     let tk = c .before .before .before in
     let il = tk .before .before in
     let al = il .before in
@@ -133,9 +111,8 @@ loop-again-2 c =
     let q = getD (a .rects .now) (l .i) [] in
     going-take barOf 64 (a .items .now) (a .rects .now) (a .n) li lr (replicate 64 (al .before .bar-of .result)) (l .at) (l .len) (l .i) (il .loop-test .taken) (l .inv) (barFrameFrom c₀ q) (eqb (getD c₀ 0 0) 2) (bar-by c₀ q (getD c₀ 0 0)) (sym (tk .takes .ensures) ∙ not-false (tk .takes .result) (c .before .before .if1 .left)) (c .bar-of2 .result) (c .bar-of2 .ensures)
 
--- src/leaves.rt:39:1
 returns : tie.Need-returns Inv-loop μ-loop
-returns c = 
+returns c =
     let al = c .before in
     let st = al .before .before in
     let a = st .args in

@@ -10,9 +10,6 @@ use Rattle.rules.specs.Frame.{focusOf}
 use Rattle.frame.proofs.Laws.{Going, going-none, going-skip, going-take, going-done, room-left, focus-by}
 use Rattle.frame.proofs.orders.focus_order.Statement.{statement}
 use Rattle.frame.proofs.orders.focus_order.Tie as tie
-use Rattle.frame.proofs.orders.focus_order.Reads as reads
-use Rattle.frame.proofs.orders.focus_order.Lts as lts
-use Rattle.frame.proofs.decode.takes.Reads as takes-reads
 
 abbrev Inv-loop : tie.InvT-loop
 Inv-loop items rects n at₀ len₀ i₀ at len i = Going focusOf 1024 items rects n at₀ at len i
@@ -20,37 +17,29 @@ Inv-loop items rects n at₀ len₀ i₀ at len i = Going focusOf 1024 items rec
 abbrev μ-loop : tie.MeasureT-loop
 μ-loop items rects n at₀ len₀ i₀ at len i = n - i
 
--- src/orders.rt:23:5
 loop-holds : tie.Need-loop-holds Inv-loop μ-loop
 loop-holds c = going-none focusOf 1024 (c .args .items .now) (c .args .rects .now) (c .args .n) (replicate 1024 0)
 
--- src/orders.rt:24:19
 mul-row : tie.Need-mul-row Inv-loop μ-loop
 mul-row c = omega arith
 
--- src/orders.rt:24:19
 element-copy-out-row : tie.Need-element-copy-out-row Inv-loop μ-loop
 element-copy-out-row c = omega arith
 
--- src/orders.rt:25:27
 array-read-takes : tie.Need-array-read-takes Inv-loop μ-loop
 array-read-takes c = omega arith
 
--- src/orders.rt:25:13
 takes-requires : tie.Need-takes-requires Inv-loop μ-loop
 takes-requires c κs = tt
 
--- src/orders.rt:26:13
 add-i : tie.Need-add-i Inv-loop μ-loop
 add-i c = omega arith
 
--- src/orders.rt:23:5
 loop-less : tie.Need-loop-less Inv-loop μ-loop
 loop-less c = omega arith
 
--- src/orders.rt:23:5
 loop-again : tie.Need-loop-again Inv-loop μ-loop
-loop-again c = 
+loop-again c =
     let tk = c .before in
     let il = tk .before .before in
     let al = il .before in
@@ -64,48 +53,41 @@ loop-again c =
     let q = getD (a .rects .now) (l .i) [] in
     going-skip focusOf 1024 (a .items .now) (a .rects .now) (a .n) li lr (replicate 1024 0) (l .at) (l .len) (l .i) (il .loop-test .taken) (l .inv) (getD c₀ 2 0) (eqb (getD c₀ 0 0) 0) (focus-by c₀ q (getD c₀ 0 0)) (sym (tk .takes .ensures) ∙ not-true (tk .takes .result) (c .if1 .taken))
 
--- src/orders.rt:29:19
 array-read-at : tie.Need-array-read-at Inv-loop μ-loop
 array-read-at c = omega arith
 
--- src/orders.rt:29:9
 mul-at : tie.Need-mul-at Inv-loop μ-loop
-mul-at c = 
+mul-at c =
     let tk = c .before in
     let il = tk .before .before in
     let l = il .before .loop in
     let h : l .len < 1024 = room-left (eqb (getD (getD (il .before .before .args .items .now) (l .i) []) 0 0) 0) (l .len) 1024 (sym (tk .takes .ensures) ∙ not-false (tk .takes .result) (c .if1 .left)) in
     omega arith
 
--- src/orders.rt:29:9
 array-write-at : tie.Need-array-write-at Inv-loop μ-loop
-array-write-at c = 
+array-write-at c =
     let tk = c .before in
     let il = tk .before .before in
     let l = il .before .loop in
     let h : l .len < 1024 = room-left (eqb (getD (getD (il .before .before .args .items .now) (l .i) []) 0 0) 0) (l .len) 1024 (sym (tk .takes .ensures) ∙ not-false (tk .takes .result) (c .if1 .left)) in
     omega arith
 
--- src/orders.rt:30:9
 add-len : tie.Need-add-len Inv-loop μ-loop
-add-len c = 
+add-len c =
     let tk = c .before in
     let il = tk .before .before in
     let l = il .before .loop in
     let h : l .len < 1024 = room-left (eqb (getD (getD (il .before .before .args .items .now) (l .i) []) 0 0) 0) (l .len) 1024 (sym (tk .takes .ensures) ∙ not-false (tk .takes .result) (c .if1 .left)) in
     omega arith
 
--- src/orders.rt:31:9
 add-i-2 : tie.Need-add-i-2 Inv-loop μ-loop
 add-i-2 c = omega arith
 
--- src/orders.rt:23:5
 loop-less-2 : tie.Need-loop-less-2 Inv-loop μ-loop
 loop-less-2 c = omega arith
 
--- src/orders.rt:23:5
 loop-again-2 : tie.Need-loop-again-2 Inv-loop μ-loop
-loop-again-2 c = 
+loop-again-2 c =
     let tk = c .before in
     let il = tk .before .before in
     let al = il .before in
@@ -119,9 +101,8 @@ loop-again-2 c =
     let q = getD (a .rects .now) (l .i) [] in
     going-take focusOf 1024 (a .items .now) (a .rects .now) (a .n) li lr (replicate 1024 0) (l .at) (l .len) (l .i) (il .loop-test .taken) (l .inv) (getD c₀ 2 0) (eqb (getD c₀ 0 0) 0) (focus-by c₀ q (getD c₀ 0 0)) (sym (tk .takes .ensures) ∙ not-false (tk .takes .result) (c .if1 .left)) (getD c₀ 2 0) refl
 
--- src/orders.rt:16:1
 returns : tie.Need-returns Inv-loop μ-loop
-returns c = 
+returns c =
     let al = c .before in
     let st = al .before in
     let a = st .args in

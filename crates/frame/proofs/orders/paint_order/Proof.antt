@@ -15,11 +15,6 @@ use Rattle.frame.specs.Frames.{itemOf}
 use Rattle.frame.proofs.Laws.{Going, going-none, going-skip, going-take, going-done, room-left, paint-by}
 use Rattle.frame.proofs.orders.paint_order.Statement.{statement}
 use Rattle.frame.proofs.orders.paint_order.Tie as tie
-use Rattle.frame.proofs.orders.paint_order.Reads as reads
-use Rattle.frame.proofs.orders.paint_order.Lts as lts
-use Rattle.frame.proofs.decode.is_painted.Reads as is-painted-reads
-use Rattle.frame.proofs.decode.painted_of.Reads as painted-of-reads
-use Rattle.frame.proofs.decode.takes.Reads as takes-reads
 
 abbrev Inv-loop : tie.InvT-loop
 Inv-loop items rects n at₀ len₀ i₀ at len i = Going paintOf 1216 items rects n (map itemOf at₀) (map itemOf at) len i
@@ -27,45 +22,35 @@ Inv-loop items rects n at₀ len₀ i₀ at len i = Going paintOf 1216 items rec
 abbrev μ-loop : tie.MeasureT-loop
 μ-loop items rects n at₀ len₀ i₀ at len i = n - i
 
--- src/orders.rt:41:9
 painted-of-requires : tie.Need-painted-of-requires Inv-loop μ-loop
 painted-of-requires c κs = tt
 
--- src/orders.rt:45:5
 loop-holds : tie.Need-loop-holds Inv-loop μ-loop
 loop-holds c = going-none paintOf 1216 (c .before .args .items .now) (c .before .args .rects .now) (c .before .args .n) (map itemOf (replicate 1216 (c .painted-of .result)))
 
--- src/orders.rt:46:19
 mul-row : tie.Need-mul-row Inv-loop μ-loop
 mul-row c = omega arith
 
--- src/orders.rt:46:19
 element-copy-out-row : tie.Need-element-copy-out-row Inv-loop μ-loop
 element-copy-out-row c = omega arith
 
--- src/orders.rt:47:46
 array-read-is-painted : tie.Need-array-read-is-painted Inv-loop μ-loop
 array-read-is-painted c = omega arith
 
--- src/orders.rt:47:27
 is-painted-requires : tie.Need-is-painted-requires Inv-loop μ-loop
 is-painted-requires c κs = tt
 
--- src/orders.rt:47:13
 takes-requires : tie.Need-takes-requires Inv-loop μ-loop
 takes-requires c κs = tt
 
--- src/orders.rt:48:13
 add-i : tie.Need-add-i Inv-loop μ-loop
 add-i c = omega arith
 
--- src/orders.rt:45:5
 loop-less : tie.Need-loop-less Inv-loop μ-loop
 loop-less c = omega arith
 
--- src/orders.rt:45:5
 loop-again : tie.Need-loop-again Inv-loop μ-loop
-loop-again c = 
+loop-again c =
     let tk = c .before in
     let ip = tk .before in
     let il = ip .before .before in
@@ -80,13 +65,11 @@ loop-again c =
     let q = getD (a .rects .now) (l .i) [] in
     going-skip paintOf 1216 (a .items .now) (a .rects .now) (a .n) li lr (map itemOf (replicate 1216 (al .before .painted-of .result))) (map itemOf (l .at)) (l .len) (l .i) (il .loop-test .taken) (l .inv) (paintedFrom c₀) (painted (getD c₀ 0 0)) (paint-by c₀ q (getD c₀ 0 0)) (sym (tk .takes .ensures ∙ ap (λ (b : Bool). b && ltb (l .len) 1216) (ip .is-painted .ensures)) ∙ not-true (tk .takes .result) (c .if1 .taken))
 
--- src/orders.rt:51:13
 painted-of-requires-2 : tie.Need-painted-of-requires-2 Inv-loop μ-loop
 painted-of-requires-2 c κs = tt
 
--- src/orders.rt:52:9
 mul-at : tie.Need-mul-at Inv-loop μ-loop
-mul-at c = 
+mul-at c =
     let tk = c .before .before in
     let ip = tk .before in
     let il = ip .before .before in
@@ -94,9 +77,8 @@ mul-at c =
     let h : l .len < 1216 = room-left (ip .is-painted .result) (l .len) 1216 (sym (tk .takes .ensures) ∙ not-false (tk .takes .result) (c .before .if1 .left)) in
     omega arith
 
--- src/orders.rt:52:9
 array-set-from-at : tie.Need-array-set-from-at Inv-loop μ-loop
-array-set-from-at c = 
+array-set-from-at c =
     let tk = c .before .before in
     let ip = tk .before in
     let il = ip .before .before in
@@ -104,9 +86,8 @@ array-set-from-at c =
     let h : l .len < 1216 = room-left (ip .is-painted .result) (l .len) 1216 (sym (tk .takes .ensures) ∙ not-false (tk .takes .result) (c .before .if1 .left)) in
     omega arith
 
--- src/orders.rt:53:9
 add-len : tie.Need-add-len Inv-loop μ-loop
-add-len c = 
+add-len c =
     let tk = c .before .before in
     let ip = tk .before in
     let il = ip .before .before in
@@ -114,17 +95,14 @@ add-len c =
     let h : l .len < 1216 = room-left (ip .is-painted .result) (l .len) 1216 (sym (tk .takes .ensures) ∙ not-false (tk .takes .result) (c .before .if1 .left)) in
     omega arith
 
--- src/orders.rt:54:9
 add-i-2 : tie.Need-add-i-2 Inv-loop μ-loop
 add-i-2 c = omega arith
 
--- src/orders.rt:45:5
 loop-less-2 : tie.Need-loop-less-2 Inv-loop μ-loop
 loop-less-2 c = omega arith
 
--- src/orders.rt:45:5
 loop-again-2 : tie.Need-loop-again-2 Inv-loop μ-loop
-loop-again-2 c = 
+loop-again-2 c =
     let tk = c .before .before in
     let ip = tk .before in
     let il = ip .before .before in
@@ -140,9 +118,8 @@ loop-again-2 c =
     subst (λ (x : List FrameItemId). Going paintOf 1216 (a .items .now) (a .rects .now) (a .n) (map itemOf (replicate 1216 (al .before .painted-of .result))) x (l .len + 1) (l .i + 1)) (sym (map-set itemOf (l .at) (l .len) (c .painted-of2 .result)))
     (going-take paintOf 1216 (a .items .now) (a .rects .now) (a .n) li lr (map itemOf (replicate 1216 (al .before .painted-of .result))) (map itemOf (l .at)) (l .len) (l .i) (il .loop-test .taken) (l .inv) (paintedFrom c₀) (painted (getD c₀ 0 0)) (paint-by c₀ q (getD c₀ 0 0)) (sym (tk .takes .ensures ∙ ap (λ (b : Bool). b && ltb (l .len) 1216) (ip .is-painted .ensures)) ∙ not-false (tk .takes .result) (c .before .if1 .left)) (itemOf (c .painted-of2 .result)) (c .painted-of2 .ensures))
 
--- src/orders.rt:37:1
 returns : tie.Need-returns Inv-loop μ-loop
-returns c = 
+returns c =
     let al = c .before in
     let st = al .before .before in
     let a = st .args in
