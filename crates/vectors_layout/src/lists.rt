@@ -16,7 +16,9 @@ use rules::frame::SplitHandleFrame;
 use rules::frame::TabBarFrame;
 use rules::frame::TabFrame;
 use rules::model::Axis;
+ghost use mathlib.Core.Path.{_≡_};
 ghost use Prim.Native.Nat.{_≤_};
+ghost use lib.ListN.{length};
 
 // Whether all agreed so far, and the place after what was read.
 pub struct Seen {
@@ -25,7 +27,9 @@ pub struct Seen {
 }
 
 // The next number, and whether it is this one.
-fn number(b: &[u8], s: Seen, n: u64) -> Seen {
+fn number(b: &[u8], s: Seen, n: u64) -> Seen
+    ensures { λ r. ⌜ r .at ≤ length (now (b .entry)) ⌝ }
+{
     let x = wire::number(b, s.at);
     Seen {
         ok: s.ok & (x.value == n),
@@ -33,7 +37,9 @@ fn number(b: &[u8], s: Seen, n: u64) -> Seen {
     }
 }
 
-fn real(b: &[u8], s: Seen, r: f64) -> Seen {
+fn real(b: &[u8], s: Seen, r: f64) -> Seen
+    ensures { λ r. ⌜ r .at ≤ length (now (b .entry)) ⌝ }
+{
     let x = wire::real(b, s.at);
     let same = wire::has_bits(r, x.value);
     Seen {
@@ -42,7 +48,9 @@ fn real(b: &[u8], s: Seen, r: f64) -> Seen {
     }
 }
 
-fn rect(b: &[u8], s: Seen, r: Rect) -> Seen {
+fn rect(b: &[u8], s: Seen, r: Rect) -> Seen
+    ensures { λ r. ⌜ r .at ≤ length (now (b .entry)) ⌝ }
+{
     let x0 = real(b, s, r.x0);
     let y0 = real(b, x0, r.y0);
     let x1 = real(b, y0, r.x1);
@@ -53,14 +61,18 @@ fn flag(yes: bool) -> u64 {
     if yes { 1 } else { 0 }
 }
 
-fn pane(b: &[u8], s: Seen, f: PaneFrame) -> Seen {
+fn pane(b: &[u8], s: Seen, f: PaneFrame) -> Seen
+    ensures { λ r. ⌜ r .at ≤ length (now (b .entry)) ⌝ }
+{
     let tile = f.tile;
     let p = number(b, s, f.pane);
     let t = number(b, p, tile.slot);
     rect(b, t, f.rect)
 }
 
-fn bar(b: &[u8], s: Seen, f: TabBarFrame) -> Seen {
+fn bar(b: &[u8], s: Seen, f: TabBarFrame) -> Seen
+    ensures { λ r. ⌜ r .at ≤ length (now (b .entry)) ⌝ }
+{
     let group = f.group;
     let g = number(b, s, group.slot);
     let r = rect(b, g, f.rect);
@@ -69,7 +81,9 @@ fn bar(b: &[u8], s: Seen, f: TabBarFrame) -> Seen {
     number(b, p, f.active_pane)
 }
 
-fn tab(b: &[u8], s: Seen, f: TabFrame) -> Seen {
+fn tab(b: &[u8], s: Seen, f: TabFrame) -> Seen
+    ensures { λ r. ⌜ r .at ≤ length (now (b .entry)) ⌝ }
+{
     let group = f.group;
     let g = number(b, s, group.slot);
     let p = number(b, g, f.pane);
@@ -78,7 +92,9 @@ fn tab(b: &[u8], s: Seen, f: TabFrame) -> Seen {
     number(b, i, flag(f.active))
 }
 
-fn child(b: &[u8], s: Seen, f: SplitChildFrame) -> Seen {
+fn child(b: &[u8], s: Seen, f: SplitChildFrame) -> Seen
+    ensures { λ r. ⌜ r .at ≤ length (now (b .entry)) ⌝ }
+{
     let split = f.split;
     let own = f.child;
     let g = number(b, s, split.slot);
@@ -94,7 +110,9 @@ fn axis_code(a: Axis) -> u64 {
     }
 }
 
-fn handle(b: &[u8], s: Seen, f: SplitHandleFrame) -> Seen {
+fn handle(b: &[u8], s: Seen, f: SplitHandleFrame) -> Seen
+    ensures { λ r. ⌜ r .at ≤ length (now (b .entry)) ⌝ }
+{
     let split = f.split;
     let g = number(b, s, split.slot);
     let h = number(b, g, f.handle as u64);
@@ -103,13 +121,17 @@ fn handle(b: &[u8], s: Seen, f: SplitHandleFrame) -> Seen {
     rect(b, a, f.rect)
 }
 
-fn three(b: &[u8], s: Seen, kind: u64, first: u64, second: u64) -> Seen {
+fn three(b: &[u8], s: Seen, kind: u64, first: u64, second: u64) -> Seen
+    ensures { λ r. ⌜ r .at ≤ length (now (b .entry)) ⌝ }
+{
     let k = number(b, s, kind);
     let f = number(b, k, first);
     number(b, f, second)
 }
 
-fn painted(b: &[u8], s: Seen, p: Painted) -> Seen {
+fn painted(b: &[u8], s: Seen, p: Painted) -> Seen
+    ensures { λ r. ⌜ r .at ≤ length (now (b .entry)) ⌝ }
+{
     let item = p.item;
     match item {
         FrameItemId::Pane(p) => three(b, s, 0, p, 0),
@@ -119,134 +141,159 @@ fn painted(b: &[u8], s: Seen, p: Painted) -> Seen {
     }
 }
 
-// Whether an entry counts: what stands past a list's length does not.
-fn pick(yes: bool, next: Seen, same: Seen) -> Seen {
-    if yes { next } else { same }
+// A list that is longer than its places agrees with nothing.
+fn failed(s: Seen) -> Seen
+    ensures { λ r. ⌜ r .at ≡ s .at ⌝ }
+{
+    Seen {
+        ok: false,
+        at: s.at,
+    }
 }
 
-fn panes(b: &[u8], s: Seen, l: Panes) -> Seen {
+fn panes(b: &[u8], s: Seen, l: Panes) -> Seen
+    ensures { λ r. ⌜ r .at ≤ length (now (b .entry)) ⌝ }
+{
     let list = l.at;
-    let mut x = number(b, s, l.len as u64);
+    let n = l.len;
+    let mut x = number(b, s, n as u64);
+    if 64 < n {
+        return failed(x);
+    }
     let mut j = 0usize;
-    while j < 64 {
+    while j < n {
         let f = list[j];
         let next = pane(b, x, f);
-        x = pick(j < l.len, next, x);
+        x = next;
         j += 1;
     }
     x
 }
 
-fn tab_bars(b: &[u8], s: Seen, l: TabBars) -> Seen {
+fn tab_bars(b: &[u8], s: Seen, l: TabBars) -> Seen
+    ensures { λ r. ⌜ r .at ≤ length (now (b .entry)) ⌝ }
+{
     let list = l.at;
-    let mut x = number(b, s, l.len as u64);
+    let n = l.len;
+    let mut x = number(b, s, n as u64);
+    if 64 < n {
+        return failed(x);
+    }
     let mut j = 0usize;
-    while j < 64 {
+    while j < n {
         let f = list[j];
         let next = bar(b, x, f);
-        x = pick(j < l.len, next, x);
+        x = next;
         j += 1;
     }
     x
 }
 
-fn tabs(b: &[u8], s: Seen, l: Tabs) -> Seen {
+fn tabs(b: &[u8], s: Seen, l: Tabs) -> Seen
+    ensures { λ r. ⌜ r .at ≤ length (now (b .entry)) ⌝ }
+{
     let list = l.at;
-    let mut x = number(b, s, l.len as u64);
+    let n = l.len;
+    let mut x = number(b, s, n as u64);
+    if 1024 < n {
+        return failed(x);
+    }
     let mut j = 0usize;
-    while j < 1024 {
+    while j < n {
         let f = list[j];
         let next = tab(b, x, f);
-        x = pick(j < l.len, next, x);
+        x = next;
         j += 1;
     }
     x
 }
 
-fn split_children(b: &[u8], s: Seen, l: SplitChildren) -> Seen {
+fn split_children(b: &[u8], s: Seen, l: SplitChildren) -> Seen
+    ensures { λ r. ⌜ r .at ≤ length (now (b .entry)) ⌝ }
+{
     let list = l.at;
-    let mut x = number(b, s, l.len as u64);
+    let n = l.len;
+    let mut x = number(b, s, n as u64);
+    if 64 < n {
+        return failed(x);
+    }
     let mut j = 0usize;
-    while j < 64 {
+    while j < n {
         let f = list[j];
         let next = child(b, x, f);
-        x = pick(j < l.len, next, x);
+        x = next;
         j += 1;
     }
     x
 }
 
-fn split_handles(b: &[u8], s: Seen, l: SplitHandles) -> Seen {
+fn split_handles(b: &[u8], s: Seen, l: SplitHandles) -> Seen
+    ensures { λ r. ⌜ r .at ≤ length (now (b .entry)) ⌝ }
+{
     let list = l.at;
-    let mut x = number(b, s, l.len as u64);
+    let n = l.len;
+    let mut x = number(b, s, n as u64);
+    if 64 < n {
+        return failed(x);
+    }
     let mut j = 0usize;
-    while j < 64 {
+    while j < n {
         let f = list[j];
         let next = handle(b, x, f);
-        x = pick(j < l.len, next, x);
+        x = next;
         j += 1;
     }
     x
 }
 
-fn focus_order(b: &[u8], s: Seen, l: FocusOrder) -> Seen {
+fn focus_order(b: &[u8], s: Seen, l: FocusOrder) -> Seen
+    ensures { λ r. ⌜ r .at ≤ length (now (b .entry)) ⌝ }
+{
     let list = l.at;
-    let mut x = number(b, s, l.len as u64);
+    let n = l.len;
+    let mut x = number(b, s, n as u64);
+    if 1024 < n {
+        return failed(x);
+    }
     let mut j = 0usize;
-    while j < 1024 {
+    while j < n {
         let f = list[j];
         let next = number(b, x, f);
-        x = pick(j < l.len, next, x);
+        x = next;
         j += 1;
     }
     x
 }
 
-fn paint_order(b: &[u8], s: Seen, l: PaintOrder) -> Seen {
+fn paint_order(b: &[u8], s: Seen, l: PaintOrder) -> Seen
+    ensures { λ r. ⌜ r .at ≤ length (now (b .entry)) ⌝ }
+{
     let list = l.at;
-    let mut x = number(b, s, l.len as u64);
+    let n = l.len;
+    let mut x = number(b, s, n as u64);
+    if 1216 < n {
+        return failed(x);
+    }
     let mut j = 0usize;
-    while j < 1216 {
+    while j < n {
         let f = list[j];
         let next = painted(b, x, f);
-        x = pick(j < l.len, next, x);
+        x = next;
         j += 1;
     }
     x
 }
 
-// Whether the lists are those that stand in the body, and the body ends after them.
-pub fn same_frame(b: &[u8], at: usize, r: Layout) -> bool {
-    let start = Seen { ok: true, at };
-    let a = panes(b, start, r.panes);
-    let c = tab_bars(b, a, r.tab_bars);
-    let d = tabs(b, c, r.tabs);
-    let e = split_children(b, d, r.split_children);
-    let f = split_handles(b, e, r.split_handles);
-    let g = focus_order(b, f, r.focus_order);
-    let h = paint_order(b, g, r.paint_order);
-    h.ok & (h.at == b.len())
-}
-
-// A length, where it is one.
-fn size(n: usize) -> usize
-    ensures { λ r. ⌜ r ≤ 4096 ⌝ }
+// Whether the lists are those that stand in the body from a place on, and the place after them.
+pub fn frame(b: &[u8], at: usize, r: Layout) -> Seen
+    ensures { λ s. ⌜ s .at ≤ length (now (b .entry)) ⌝ }
 {
-    if n < 4096 { n } else { 4096 }
-}
-
-// How many entries the stream had from which these lists were sorted out: the paint order names again what the others have.
-pub fn entries(r: Layout) -> usize {
-    let panes = r.panes;
-    let bars = r.tab_bars;
-    let tabs = r.tabs;
-    let children = r.split_children;
-    let handles = r.split_handles;
-    let focus = r.focus_order;
-    size(panes.len)
-        + size(bars.len)
-        + size(tabs.len)
-        + size(children.len)
-        + size(handles.len)
-        + size(focus.len)
+    let start = Seen { ok: true, at };
+    let p = panes(b, start, r.panes);
+    let t = tab_bars(b, p, r.tab_bars);
+    let g = tabs(b, t, r.tabs);
+    let c = split_children(b, g, r.split_children);
+    let h = split_handles(b, c, r.split_handles);
+    let f = focus_order(b, h, r.focus_order);
+    paint_order(b, f, r.paint_order)
 }

@@ -1,5 +1,4 @@
-// The stored layouts (docs/VECTORS.md), put to the library and compared bit for bit; then desks by hand: document 01's E11 and E12, the empty desk, and
-// one with all 64 slots in use.
+// The stored layouts (docs/VECTORS.md), put to the library and compared bit for bit.
 use frame::Layout;
 use libc::STDOUT_FILENO;
 use rules::frame::LayoutInput;
@@ -9,9 +8,7 @@ use rules::model::TileTree;
 use wire::threes::Numbers;
 ghost use Prim.Native.Nat.{_≤_};
 
-mod desks;
 mod lists;
-mod trees;
 
 // A layout's input, and the place after it.
 struct InputRead {
@@ -74,12 +71,35 @@ fn same_told(n: Numbers, told: answers::Told) -> bool {
     n.third == told.second
 }
 
+// A length, where it is one.
+fn size(n: usize) -> usize
+    ensures { λ r. ⌜ r ≤ 4096 ⌝ }
+{
+    if n < 4096 { n } else { 4096 }
+}
+
+// How many entries the stream had from which these lists were sorted out: the paint order names again what the others have.
+fn entries(r: Layout) -> usize {
+    let panes = r.panes;
+    let bars = r.tab_bars;
+    let tabs = r.tabs;
+    let children = r.split_children;
+    let handles = r.split_handles;
+    let focus = r.focus_order;
+    size(panes.len)
+        + size(bars.len)
+        + size(tabs.len)
+        + size(children.len)
+        + size(handles.len)
+        + size(focus.len)
+}
+
 // Whether the stream over lent arrays has as many entries as the lists that are sorted out of it.
 fn same_stream(t: TileTree, input: LayoutInput, r: Layout) -> bool {
     let mut items = [[7u64; 5]; 2304];
     let mut rects = [[7.0f64; 4]; 2304];
     let l = layout::whole::layout_into(t, input, &mut items, &mut rects);
-    l.len == lists::entries(r)
+    l.len == entries(r)
 }
 
 // One case: a tree, an input, and the frame that the library makes of them.
@@ -97,7 +117,8 @@ fn same_case(b: &[u8]) -> bool {
     if !same_stream(t, i, r) {
         return false;
     }
-    lists::same_frame(b, told.at, r)
+    let seen = lists::frame(b, told.at, r);
+    seen.ok & (seen.at == b.len())
 }
 
 // The next case of the input, read into a buffer.
@@ -125,18 +146,6 @@ fn count(cases: u64, buf: &mut [u8]) -> u64 {
     agreed
 }
 
-// How many of the desks by hand are laid out as they should be.
-fn by_hand() -> u64
-    ensures { λ r. ⌜ r ≤ 5 ⌝ }
-{
-    let e11 = one_if(desks::e11());
-    let e12 = one_if(desks::e12());
-    let empty = one_if(desks::empty());
-    let full = one_if(desks::full());
-    let deep = one_if(desks::deep());
-    e11 + e12 + empty + full + deep
-}
-
 fn main() {
     wire::input::skip_magic();
     let cases = wire::input::number_in();
@@ -146,6 +155,4 @@ fn main() {
     io::write_all(STDOUT_FILENO, b" of ");
     io::print_decimal(STDOUT_FILENO, cases);
     io::write_all(STDOUT_FILENO, b" layouts agree\n");
-    io::print_decimal(STDOUT_FILENO, by_hand());
-    io::write_all(STDOUT_FILENO, b" of 5 desks by hand agree\n");
 }

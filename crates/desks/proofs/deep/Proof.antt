@@ -1,8 +1,8 @@
--- `vectors_layout::desks::deep` is safe and ends. Assumes nothing.
+-- `desks::deep` is safe and ends. Assumes nothing.
 use Prim.Native.Nat.{_-_, _≤_}
 use borrow.Author.Needs.{needs}
-use Rattle.vectors_layout.proofs.desks.deep.Statement.{statement}
-use Rattle.vectors_layout.proofs.desks.deep.Tie as tie
+use Rattle.desks.proofs.deep.Statement.{statement}
+use Rattle.desks.proofs.deep.Tie as tie
 
 abbrev Inv-loop : tie.InvT-loop
 Inv-loop slots₀ j₀ slots j = j ≤ 63

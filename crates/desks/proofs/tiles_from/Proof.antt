@@ -1,8 +1,8 @@
--- `vectors_layout::trees::tiles_from` is safe and ends. Assumes nothing.
+-- `desks::tiles_from` is safe and ends. Assumes nothing.
 use Prim.Native.Nat.{_-_, _≤_}
 use borrow.Author.Needs.{needs}
-use Rattle.vectors_layout.proofs.trees.tiles_from.Statement.{statement}
-use Rattle.vectors_layout.proofs.trees.tiles_from.Tie as tie
+use Rattle.desks.proofs.tiles_from.Statement.{statement}
+use Rattle.desks.proofs.tiles_from.Tie as tie
 
 abbrev Inv-loop : tie.InvT-loop
 Inv-loop first base at₀ j₀ at j = j ≤ 16
