@@ -4,7 +4,7 @@ use mathlib.Core.Bool.{Bool, true, false}
 use mathlib.Core.List.{List, [], _++_, map}
 use Prim.Native.Nat.{ℕ, _≤_, _<_}
 use native.Mathlib.Omega.{arith}
-use lib.ListN.{length, getD, drop, length-map}
+use lib.ListN.{length, getD, drop, length-map, take-append-drop}
 use lib.Ieee.{Float}
 use Rattle.rules.specs.Tree.{Node, viewSlot, view}
 use Rattle.rules.specs.Sound.{sound}
@@ -19,11 +19,11 @@ use Rattle.columns.specs.Columns.{nodesFrom, Slim}
 use Rattle.columns.specs.Pack.{headOf, idsOf, sharesOf, minimaOf}
 use Rattle.columns.specs.PackLaws.{unpacked, unpacked-slim}
 use Rattle.frames.specs.Fits.{items-fit}
-use Rattle.layout.specs.Stream.{Stream, stream, itemsFrom, itemsIn, pushAll}
+use Rattle.layout.specs.Stream.{codeOf, sidesOf, Stream, stream, itemsFrom, itemsIn, pushAll}
 use Rattle.layout.specs.Grid.{Grid}
 use Rattle.layout.specs.Whole.{laidOut, LaysOut}
 use Rattle.layout.specs.declared.LaidOut.{LaidOut}
-use Rattle.layout.proofs.ReadLaws.{Wrote, wrote-all}
+use Rattle.layout.proofs.ReadLaws.{items-back, Wrote, wrote-all}
 use Rattle.layout.proofs.SoundLaws.{sound-whole}
 
 -- ---- the columns of a sound tree
@@ -72,10 +72,12 @@ module _ (t : TileTree) (i : LayoutInput) where
         record {
           right = (λ z. record { answer = a z; revision = v z; frame = frameOf (itemsIn (stream cs qs (l z))) }) ∙ (λ z. record { answer = Refused x; revision = t .revision; frame = frameOf (nothing z) }) ∙ sym e;
           items = λ p. absurd (told p a);
+          codes = (λ z. map codeOf (sym nothing z) ++ drop 0 cs) ∙ (λ z. map codeOf (itemsIn (stream cs qs (sym l z))) ++ drop (sym l z) cs);
+          sides = (λ z. map sidesOf (sym nothing z) ++ drop 0 qs) ∙ (λ z. map sidesOf (itemsIn (stream cs qs (sym l z))) ++ drop (sym l z) qs);
+          size = l ∙ (λ z. length (sym nothing z)) ∙ (λ z. length (itemsIn (stream cs qs (sym l z))));
           few = omega arith;
-          untouched = λ f p. (l, refl, refl);
           long = (refl, refl);
-          rest = (refl, refl);
+          untouched = λ f p. (l, refl, refl);
         }
 
     pub not-sound : (r : LaidOut) → sound (view t) ≡ false → (r .answer ≡ Refused NotSound) × (r .revision ≡ t .revision) × (r .len ≡ 0) → LaysOut t i cs qs cs qs r
@@ -92,12 +94,14 @@ module _ (t : TileTree) (i : LayoutInput) where
         let fit : length xs ≤ 2304 = items-fit (view t) (plusInput i) (length-map (t .slots) viewSlot ∙ size) e in
         let same : pushAll xs (stream cs qs 0) ≡ stream cs′ qs′ n = sym (p ∙ ap (λ (x : LayoutInput). pushAll (layoutItems (view t) x) (stream cs qs 0)) ep) in
         let W : Wrote (stream cs qs 0) xs (stream cs′ qs′ n) = subst (Wrote (stream cs qs 0) xs) same (wrote-all xs (stream cs qs 0) lc lq (omega arith)) in
-        let all : itemsIn (stream cs′ qs′ n) ≡ xs = W .front ∙ (λ z. nothing z ++ xs) in
+        let all : itemsIn (stream cs′ qs′ n) ≡ xs = (λ z. itemsFrom (W .codes z) (W .sides z)) ∙ items-back xs in
         record {
           right = (λ z. record { answer = Accepted; revision = t .revision; frame = frameOf (all z) }) ∙ sym (good e f);
           items = λ q. all;
+          codes = sym (take-append-drop n cs′) ∙ (λ z. (W .codes ∙ ap (map codeOf) (sym all)) z ++ W .items n (omega arith) z);
+          sides = sym (take-append-drop n qs′) ∙ (λ z. (W .sides ∙ ap (map sidesOf) (sym all)) z ++ W .rects n (omega arith) z);
+          size = (let z : n ≡ length xs = omega (arith, W .size) in z) ∙ ap length (sym all);
           few = omega (arith, W .size);
-          untouched = λ x q. absurd (told refl q);
           long = W .long;
-          rest = (W .items n (omega arith), W .rects n (omega arith));
+          untouched = λ x q. absurd (told refl q);
         }

@@ -2,3 +2,4 @@
 pub mod Stream
 pub mod Grid
 pub mod Whole
+pub mod Unique

@@ -47,6 +47,9 @@ rectOf (tabItem f) = f .rect
 rectOf (childItem f) = f .rect
 rectOf (handleItem f) = f .rect
 
+abbrev pub sidesOf : Item → List Float
+sidesOf x = sides (rectOf x)
+
 -- ---- and back
 
 abbrev pub flagFrom : ℕ → Bool
@@ -97,7 +100,7 @@ abbrev pub pushRow : List ℕ → List Float → Stream → Stream
 pushRow c q s = pushBy (ltb (s .len) 2304) c q s
 
 abbrev pub pushItem : Item → Stream → Stream
-pushItem x s = pushRow (codeOf x) (sides (rectOf x)) s
+pushItem x s = pushRow (codeOf x) (sidesOf x) s
 
 -- one after another
 unfoldable pub pushAll : List Item → Stream → Stream

@@ -1,7 +1,7 @@
 -- What a layout over lent arrays promises. Definitions only.
 use mathlib.Core.Path.{_≡_}
 use Prim.Native.Nat.{ℕ, _≤_}
-use mathlib.Core.List.{List}
+use mathlib.Core.List.{List, _++_, map}
 use lib.ListN.{length, drop}
 use lib.Ieee.{Float}
 use Rattle.rules.specs.Tree.{view}
@@ -10,7 +10,7 @@ use Rattle.rules.specs.declared.model.TileTree.{TileTree}
 use Rattle.rules.specs.declared.frame.LayoutInput.{LayoutInput}
 use Rattle.rules.specs.declared.refusal.Answer.the-variants.{Accepted, Refused}
 use Rattle.rules.specs.declared.refusal.Refusal.{Refusal}
-use Rattle.layout.specs.Stream.{stream, itemsIn}
+use Rattle.layout.specs.Stream.{codeOf, sidesOf, stream, itemsIn}
 use Rattle.layout.specs.declared.LaidOut.{LaidOut}
 
 -- the answer and what stands in the arrays, as the rule has it
@@ -22,9 +22,11 @@ pub record LaysOut (t : TileTree) (i : LayoutInput) (cs : List (List ℕ)) (qs :
   pub right : laidOut cs′ qs′ r ≡ layout (view t) i
   -- the entries in use are the rule's items, in its order
   pub items : r .answer ≡ Accepted → itemsIn (stream cs′ qs′ (r .len)) ≡ layoutItems (view t) (plusInput i)
+  -- all that the arrays hold: the entries in use, number for number, and past them what was there
+  pub codes : cs′ ≡ map codeOf (itemsIn (stream cs′ qs′ (r .len))) ++ drop (r .len) cs
+  pub sides : qs′ ≡ map sidesOf (itemsIn (stream cs′ qs′ (r .len))) ++ drop (r .len) qs
+  pub size : r .len ≡ length (itemsIn (stream cs′ qs′ (r .len)))
   pub few : r .len ≤ 2304
+  pub long : (length cs′ ≡ length cs) × (length qs′ ≡ length qs)
   -- a refusal writes nothing
   pub untouched : (e : Refusal) → r .answer ≡ Refused e → (r .len ≡ 0) × (cs′ ≡ cs) × (qs′ ≡ qs)
-  -- and what is not in use is as it was
-  pub long : (length cs′ ≡ length cs) × (length qs′ ≡ length qs)
-  pub rest : (drop (r .len) cs′ ≡ drop (r .len) cs) × (drop (r .len) qs′ ≡ drop (r .len) qs)
