@@ -1,6 +1,7 @@
 -- A tree's slots as columns and back, the sweep, the lowest empty slot and the report of actions: what each promises. Definitions only.
 use mathlib.Core.Path.{_≡_}
-use mathlib.Core.Bool.{Bool, true, false}
+use mathlib.Core.Bool.{Bool, true, false, _||_}
+use lib.Dec.{ltb}
 use mathlib.Core.List.{List, [], _∷_, map}
 use Prim.Native.Nat.{ℕ, zero, suc, _+_, _≤_}
 use lib.ListN.{length, getD, take}
@@ -13,6 +14,7 @@ use Rattle.rules.specs.declared.model.Slot.{Slot}
 use Rattle.rules.specs.declared.model.RepairAction.{RepairAction}
 use Rattle.rules.specs.declared.model.RepairAction.the-variants.{RemovedInvalidNode, RepairedActiveTab, RepairedShares, RepairedConstraints, CollapsedSplit, RemovedDuplicatePane}
 use Rattle.forest.specs.Sweep.{sweptBy, actionsBy}
+use Rattle.forest.specs.Still.{noneLost}
 use Rattle.columns.specs.Columns.{nodesFrom, Lists, Slim}
 use Rattle.columns.specs.declared.Listed.{Listed}
 use Rattle.columns.specs.declared.Report.{Report}
@@ -47,6 +49,17 @@ sharesOf s = s .shares .at
 abbrev pub minimaOf : Slot → List Float
 minimaOf s = s .minima .at
 
+-- the four columns of these slots
+pub record Unpacks (s : List Slot) (hs xs : List (List ℕ)) (ss ms : List (List Float)) : Type 0 where
+  pub heads : hs ≡ map headOf s
+  pub ids : xs ≡ map idsOf s
+  pub shares : ss ≡ map sharesOf s
+  pub minima : ms ≡ map minimaOf s
+
+-- a length of over 16
+abbrev pub overHead : List ℕ → Bool
+overHead h = ltb 16 (getD h 4 0) || ltb 16 (getD h 5 0) || ltb 16 (getD h 6 0)
+
 -- ---- the sweep
 
 -- a head that is not claimed becomes that of an empty slot
@@ -62,6 +75,10 @@ pub record Sweeps (hs : List (List ℕ)) (cs : List Bool) (acts : List (List ℕ
       → (l : List RepairAction) → Lists acts n l → Lists acts′ r (actionsBy 0 cs (nodesFrom hs xs ss ms) l)
   pub slim : ((i : ℕ) → Slim (getD hs i [])) → (i : ℕ) → Slim (getD hs′ i [])
   pub long : length hs′ ≡ 64
+
+-- whether a sweep of these nodes by these claims would list nothing
+pub record NoneLost (hs : List (List ℕ)) (cs : List Bool) (r : Bool) : Type 0 where
+  pub right : (xs : List (List ℕ)) (ss ms : List (List Float)) → length xs ≡ 64 → length ss ≡ 64 → length ms ≡ 64 → r ≡ noneLost cs (nodesFrom hs xs ss ms)
 
 -- ---- the lowest of the empty slots, and 64 where there is none
 

@@ -1,18 +1,18 @@
 -- Laws of the columns made from slots and back, of the sweep, the lowest empty slot and the report, over plain values. Assumes nothing.
 use mathlib.Core.Path.{_≡_, refl, sym, ap, subst, _∙_}
-use mathlib.Core.Bool.{Bool, true, false, not, _||_}
+use mathlib.Core.Bool.{Bool, true, false, not, _||_, _&&_}
 use mathlib.Core.List.{List, [], _∷_, _++_, map}
 use Prim.Native.Nat.{ℕ, zero, suc, _+_, _≤_, _<_}
 use native.Mathlib.Omega.{arith}
 use native.Mathlib.Nat.{not-suc-le-zero, le-of-suc-le-suc}
 use native.Mathlib.Numerals.{add-one}
-use borrow.Author.Tests.{ltb-false, le-ltb, ne-eqb}
+use borrow.Author.Tests.{ltb-false, le-ltb, ne-eqb, eq-eqb, not-true, not-false}
 use lib.Dec.{eqb, ltb}
 use lib.Ieee.{Float}
 use lib.ListN.{length, take, drop, getD, set, replicate, length-set, length-map, length-replicate, drop-of-length-le}
 use lib.Seq.{take-suc, take-suc-set, take-all, drop-cons, drop-drop, drop-set-lt}
 use Rattle.rules.specs.Lists.{anyOf}
-use Rattle.rules.specs.Tree.{Node, empty, tile, nodeOf, viewSlot, overBy, overSlot, barCode, axisCode, isEmpty}
+use Rattle.rules.specs.Tree.{Node, empty, tile, nodeOf, viewSlot, overBy, overSlot, barCode, axisCode, isEmpty, emptyBy, emptyFrom, emptySlots}
 use Rattle.rules.specs.Repair.{addedIf, sweepBy, sweepNote}
 use Rattle.rules.specs.declared.model.TileId.{TileId}
 use Rattle.rules.specs.declared.model.Axis.{Axis}
@@ -24,10 +24,11 @@ use Rattle.rules.specs.declared.model.Kind.the-variants.{Empty, Pane, Tabs, Spl
 use Rattle.rules.specs.declared.model.Slot.{Slot}
 use Rattle.rules.specs.declared.model.RepairAction.{RepairAction}
 use Rattle.rules.specs.declared.model.RepairAction.the-variants.{RemovedInvalidNode, RepairedActiveTab, RepairedShares, RepairedConstraints, CollapsedSplit, RemovedDuplicatePane}
+use Rattle.forest.specs.Still.{noneLost}
 use Rattle.forest.specs.Sweep.{sweptBy, actionsBy}
 use Rattle.lists.specs.Tests.{Flagged, flagged-more}
 use Rattle.columns.specs.Columns.{barFrom, axisFrom, nodeBy, nodeFrom, nodesFrom, codeOf, Lists, Noted, Slim}
-use Rattle.columns.specs.Pack.{headBy, headOf, slotOf, idsBy, idsOf, sharesOf, minimaOf, sweptHead, Sweeps, actionBy, actionFrom, listedFrom, actionOf}
+use Rattle.columns.specs.Pack.{headBy, headOf, slotOf, idsBy, idsOf, sharesOf, minimaOf, sweptHead, Sweeps, actionBy, actionFrom, listedFrom, actionOf, Unpacks, overHead, firstOf, NoneLost}
 use Rattle.columns.specs.declared.Listed.{Listed}
 use Rattle.columns.specs.ColumnLaws.{nodes-long, nodes-at, split-of}
 
@@ -445,3 +446,164 @@ reports acts at n i C le ge l L =
     let e : n ≡ i = omega arith in
     ap (λ (k : ℕ). map actionOf (take k at)) e ∙ ap (map actionOf) (C .front) ∙ ap (λ (k : ℕ). map actionOf (take k (map listedFrom acts))) (sym e)
     ∙ taken-actions n acts ∙ ap (map actionFrom) L ∙ codes-back l
+
+-- ---- the lowest empty slot
+
+abbrev pub pick : Bool → ℕ → ℕ → ℕ
+pick true i r = i
+pick false i r = r
+
+abbrev pub firstHead : ℕ → List (List ℕ) → ℕ
+firstHead i [] = 64
+firstHead i (h ∷ hs) = pick (eqb (getD h 0 0) 0) i (firstHead (suc i) hs)
+
+first-by : (b : Bool) (i : ℕ) (is : List ℕ) → pick b i (firstOf is) ≡ firstOf (emptyBy b i is)
+first-by true i is = refl
+first-by false i is = refl
+
+first-nodes : (i : ℕ) (hs xs : List (List ℕ)) (ss ms : List (List Float)) → length xs ≡ length hs → length ss ≡ length hs → length ms ≡ length hs
+    → firstHead i hs ≡ firstOf (emptyFrom i (nodesFrom hs xs ss ms))
+unfolding nodesFrom emptyFrom
+first-nodes i [] xs ss ms q r t = refl
+first-nodes i (h ∷ hs) [] ss ms q r t = absurd (omega arith)
+first-nodes i (h ∷ hs) (x ∷ xs) [] ms q r t = absurd (omega arith)
+first-nodes i (h ∷ hs) (x ∷ xs) (s ∷ ss) [] q r t = absurd (omega arith)
+first-nodes i (h ∷ hs) (x ∷ xs) (s ∷ ss) (m ∷ ms) q r t =
+    (λ z. pick (sym (empty-by (getD h 0 0) h x s m) z) i (first-nodes (suc i) hs xs ss ms (omega arith) (omega arith) (omega arith) z))
+    ∙ first-by (isEmpty (nodeFrom h x s m)) i (emptyFrom (suc i) (nodesFrom hs xs ss ms))
+
+module _ (hs : List (List ℕ)) where
+  -- none of the first i is empty
+  pub record Looked (i : ℕ) : Type 0 where
+    pub within : i ≤ 64
+    pub rest : firstHead i (drop i hs) ≡ firstHead 0 hs
+
+  -- r is the answer
+  abbrev pub First : ℕ → Type 0
+  First r = (xs : List (List ℕ)) (ss ms : List (List Float)) → length xs ≡ 64 → length ss ≡ 64 → length ms ≡ 64 → r ≡ firstOf (emptySlots (nodesFrom hs xs ss ms))
+
+  pub looked-none : Looked 0
+  looked-none = record { within = omega arith; rest = refl }
+
+  module _ (lh : length hs ≡ 64) where
+    first-is : (r : ℕ) → r ≡ firstHead 0 hs → First r
+    first-is r e xs ss ms lx ls lm = e ∙ first-nodes 0 hs xs ss ms (omega arith) (omega arith) (omega arith)
+
+    looked-step : (i : ℕ) → i < 64 → firstHead i (drop i hs) ≡ pick (eqb (getD (getD hs i []) 0 0) 0) i (firstHead (i + 1) (drop (i + 1) hs))
+    looked-step i lt =
+        ap (firstHead i) (drop-cons hs i [] (omega arith))
+        ∙ ap (λ (j : ℕ). pick (eqb (getD (getD hs i []) 0 0) 0) i (firstHead j (drop j hs))) (sym (add-one i))
+
+    pub looked-more : (i : ℕ) → Looked i → i < 64 → (getD (getD hs i []) 0 0 ≡ 0 → ⊥) → Looked (i + 1)
+    looked-more i L lt ne =
+        record {
+          within = omega arith;
+          rest = sym (looked-step i lt ∙ ap (λ (b : Bool). pick b i (firstHead (i + 1) (drop (i + 1) hs))) (ne-eqb (getD (getD hs i []) 0 0) 0 ne)) ∙ L .rest;
+        }
+
+    pub looked-found : (i : ℕ) → Looked i → i < 64 → getD (getD hs i []) 0 0 ≡ 0 → First i
+    looked-found i L lt e =
+        first-is i (sym (looked-step i lt ∙ ap (λ (b : Bool). pick b i (firstHead (i + 1) (drop (i + 1) hs))) (eq-eqb (getD (getD hs i []) 0 0) 0 e)) ∙ L .rest)
+
+    pub looked-all : (i : ℕ) → Looked i → 64 ≤ i → First 64
+    looked-all i L le = let p : length hs ≤ i = omega arith in first-is 64 (sym (ap (firstHead i) (drop-of-length-le hs p)) ∙ L .rest)
+
+-- ---- every occupied slot is claimed
+
+-- the same by the heads
+unfoldable pub noneBy : List Bool → List (List ℕ) → Bool
+noneBy cs [] = true
+noneBy [] (h ∷ hs) = true
+noneBy (c ∷ cs) (h ∷ hs) = (c || eqb (getD h 0 0) 0) && noneBy cs hs
+
+none-nodes : (cs : List Bool) (hs xs : List (List ℕ)) (ss ms : List (List Float)) → length xs ≡ length hs → length ss ≡ length hs → length ms ≡ length hs → noneBy cs hs ≡ noneLost cs (nodesFrom hs xs ss ms)
+unfolding noneBy noneLost nodesFrom
+none-nodes cs [] xs ss ms p q r = refl
+none-nodes [] (h ∷ hs) [] ss ms p q r = absurd (omega arith)
+none-nodes [] (h ∷ hs) (x ∷ xs) [] ms p q r = absurd (omega arith)
+none-nodes [] (h ∷ hs) (x ∷ xs) (s ∷ ss) [] p q r = absurd (omega arith)
+none-nodes [] (h ∷ hs) (x ∷ xs) (s ∷ ss) (m ∷ ms) p q r = refl
+none-nodes (c ∷ cs) (h ∷ hs) [] ss ms p q r = absurd (omega arith)
+none-nodes (c ∷ cs) (h ∷ hs) (x ∷ xs) [] ms p q r = absurd (omega arith)
+none-nodes (c ∷ cs) (h ∷ hs) (x ∷ xs) (s ∷ ss) [] p q r = absurd (omega arith)
+none-nodes (c ∷ cs) (h ∷ hs) (x ∷ xs) (s ∷ ss) (m ∷ ms) p q r = λ z. (c || sym (empty-by (getD h 0 0) h x s m) z) && none-nodes cs hs xs ss ms (omega arith) (omega arith) (omega arith) z
+
+module _ (hs : List (List ℕ)) (cs : List Bool) (lh : length hs ≡ 64) (lc : length cs ≡ 64) where
+  -- none of the first i is lost
+  abbrev pub Passing : ℕ → Type 0
+  Passing i = noneBy (drop i cs) (drop i hs) ≡ noneBy cs hs
+
+  pub none-is : (r : Bool) → r ≡ noneBy cs hs → NoneLost hs cs r
+  none-is r e = record { right = λ xs ss ms lx ls lm. e ∙ none-nodes cs hs xs ss ms (omega (arith, lh, lx)) (omega (arith, lh, ls)) (omega (arith, lh, lm)) }
+
+  passing-step : (i : ℕ) → i < 64 → noneBy (drop i cs) (drop i hs) ≡ ((getD cs i false || eqb (getD (getD hs i []) 0 0) 0) && noneBy (drop (suc i) cs) (drop (suc i) hs))
+  unfolding noneBy
+  passing-step i lt = λ z. noneBy (drop-cons cs i false (omega (arith, lc)) z) (drop-cons hs i [] (omega (arith, lh)) z)
+
+  pub passing-more : (i : ℕ) → i < 64 → not (getD cs i false || eqb (getD (getD hs i []) 0 0) 0) ≡ false → Passing i → Passing (i + 1)
+  passing-more i lt e P =
+      ap (λ (k : ℕ). noneBy (drop k cs) (drop k hs)) (add-one i)
+      ∙ sym (passing-step i lt ∙ ap (λ (b : Bool). b && noneBy (drop (suc i) cs) (drop (suc i) hs)) (not-false (getD cs i false || eqb (getD (getD hs i []) 0 0) 0) e)) ∙ P
+
+  pub passing-lost : (i : ℕ) → i < 64 → not (getD cs i false || eqb (getD (getD hs i []) 0 0) 0) ≡ true → Passing i → NoneLost hs cs false
+  passing-lost i lt e P =
+      none-is false (sym (passing-step i lt ∙ ap (λ (b : Bool). b && noneBy (drop (suc i) cs) (drop (suc i) hs)) (not-true (getD cs i false || eqb (getD (getD hs i []) 0 0) 0) e)) ∙ P)
+
+  pub passing-all : (i : ℕ) → 64 ≤ i → Passing i → NoneLost hs cs true
+  unfolding noneBy
+  passing-all i le P = none-is true (sym (λ z. noneBy (drop i cs) (let p : length hs ≤ i = omega (arith, lh) in drop-of-length-le hs p z)) ∙ P)
+
+-- ---- all four columns at once
+
+pub record Unpacking (s : List Slot) (i : ℕ) (hs xs : List (List ℕ)) (ss ms : List (List Float)) : Type 0 where
+  pub size : length s ≡ 64
+  pub within : i ≤ 64
+  pub heads : Copied (map headOf s) i hs
+  pub ids : Copied (map idsOf s) i xs
+  pub shares : Copied (map sharesOf s) i ss
+  pub minima : Copied (map minimaOf s) i ms
+
+module _ (s : List Slot) (size : length s ≡ 64) where
+  pub unpacking-none : (hs xs : List (List ℕ)) (ss ms : List (List Float)) → length hs ≡ 64 → length xs ≡ 64 → length ss ≡ 64 → length ms ≡ 64 → Unpacking s 0 hs xs ss ms
+  unpacking-none hs xs ss ms a b c d =
+      record { size = size; within = omega arith; heads = mapped-none headOf s 64 size hs a; ids = mapped-none idsOf s 64 size xs b; shares = mapped-none sharesOf s 64 size ss c; minima = mapped-none minimaOf s 64 size ms d }
+
+  pub unpacking-more : (hs xs : List (List ℕ)) (ss ms : List (List Float)) (i : ℕ) (d : Slot) (h x : List ℕ) (y m : List Float) → Unpacking s i hs xs ss ms → i < 64
+      → h ≡ headOf (getD s i d) → x ≡ idsOf (getD s i d) → y ≡ sharesOf (getD s i d) → m ≡ minimaOf (getD s i d) → Unpacking s (i + 1) (set hs i h) (set xs i x) (set ss i y) (set ms i m)
+  unpacking-more hs xs ss ms i d h x y m U lt a b c e =
+      record {
+        size = size;
+        within = omega arith;
+        heads = mapped-more headOf s 64 size hs i d [] h (U .heads) lt a;
+        ids = mapped-more idsOf s 64 size xs i d [] x (U .ids) lt b;
+        shares = mapped-more sharesOf s 64 size ss i d [] y (U .shares) lt c;
+        minima = mapped-more minimaOf s 64 size ms i d [] m (U .minima) lt e;
+      }
+
+  pub unpacking-all : (hs xs : List (List ℕ)) (ss ms : List (List Float)) (i : ℕ) → Unpacking s i hs xs ss ms → 64 ≤ i → Unpacks s hs xs ss ms
+  unpacking-all hs xs ss ms i U le =
+      record {
+        heads = mapped-all headOf s 64 size hs i (U .heads) le;
+        ids = mapped-all idsOf s 64 size xs i (U .ids) le;
+        shares = mapped-all sharesOf s 64 size ss i (U .shares) le;
+        minima = mapped-all minimaOf s 64 size ms i (U .minima) le;
+      }
+
+or-false : (b : Bool) → (b || false || false) ≡ b
+or-false true = refl
+or-false false = refl
+
+-- the heads tell whether a list is over 16
+over-head : (s : Slot) → overHead (headOf s) ≡ overSlot s
+over-head s = go (s .kind)
+  where
+    go : (k : Kind) → overHead (headBy k s) ≡ overBy k s
+    go Empty = refl
+    go (Pane p) = refl
+    go (Tabs b) = or-false (ltb 16 (s .panes .len))
+    go (Split a) = refl
+
+pub heads-over : (s : List Slot) → anyOf overHead (map headOf s) ≡ anyOf overSlot s
+unfolding anyOf
+heads-over [] = refl
+heads-over (x ∷ s) = λ z. over-head x z || heads-over s z

@@ -11,7 +11,7 @@ ghost use mathlib.Core.Path.{_≡_};
 ghost use mathlib.Core.Bool.{false};
 ghost use mathlib.Core.List.{[], map};
 ghost use Prim.Native.Nat.{ℕ, _≤_};
-ghost use lib.ListN.{getD, take};
+ghost use lib.ListN.{length, getD, take};
 ghost use Rattle.rules.specs.Lists.{anyOf};
 ghost use Rattle.rules.specs.Tree.{Node, tile, viewSlot, overSlot};
 ghost use Rattle.columns.specs.Columns.{barFrom, axisFrom, nodeFrom, nodesFrom, Slim};
@@ -136,18 +136,22 @@ fn slot_of(h: [u64; 8], row: [u64; 16], shares: [f64; 16], minima: [f64; 16]) ->
 }
 
 pub fn pack(
-    heads: [[u64; 8]; 64],
-    ids: [[u64; 16]; 64],
-    shares: [[f64; 16]; 64],
-    minima: [[f64; 16]; 64],
+    heads: &[[u64; 8]; 64],
+    ids: &[[u64; 16]; 64],
+    shares: &[[f64; 16]; 64],
+    minima: &[[f64; 16]; 64],
 ) -> [Slot; 64]
-    requires { ⌜ ((i : ℕ) → Slim (getD heads i [])) ⌝ }
-    ensures { λ r. ⌜ (map viewSlot r ≡ nodesFrom heads ids shares minima) × (anyOf overSlot r ≡ false) ⌝ }
+    requires { ⌜ (length (now heads) ≡ 64) × (length (now ids) ≡ 64) × (length (now shares) ≡ 64) × (length (now minima) ≡ 64) × ((i : ℕ) → Slim (getD (now heads) i [])) ⌝ }
+    ensures { λ r. ⌜ (map viewSlot r ≡ nodesFrom (now (heads .entry)) (now (ids .entry)) (now (shares .entry)) (now (minima .entry))) × (anyOf overSlot r ≡ false) ⌝ }
 {
     let none = bare_slot(Kind::Empty);
     let mut a = [none; 64];
     for i in 0..64usize {
-        let s = slot_of(heads[i], ids[i], shares[i], minima[i]);
+        let h = heads[i];
+        let row = ids[i];
+        let parts = shares[i];
+        let least = minima[i];
+        let s = slot_of(h, row, parts, least);
         a[i] = s;
     }
     a

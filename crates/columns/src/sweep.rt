@@ -1,11 +1,16 @@
-// The sweep: what the walk did not claim.
+// Searches of the heads: the sweep of what the walk did not claim, whether there is any, and the lowest empty slot.
 use crate::actions;
 ghost use mathlib.Core.Path.{_≡_};
 ghost use mathlib.Core.Bool.{false, not, _||_};
 ghost use Prim.Native.Nat.{_+_, _≤_, _<_};
 ghost use lib.Dec.{eqb};
 ghost use lib.ListN.{length, getD};
-ghost use Rattle.columns.specs.Pack.{sweptHead, Sweeps};
+ghost use mathlib.Core.List.{List};
+ghost use Prim.Native.Nat.{ℕ};
+ghost use lib.Ieee.{Float};
+ghost use Rattle.rules.specs.Tree.{emptySlots};
+ghost use Rattle.columns.specs.Columns.{nodesFrom};
+ghost use Rattle.columns.specs.Pack.{sweptHead, Sweeps, NoneLost, firstOf};
 
 // Whether a slot is occupied and not claimed.
 fn is_lost(kept: bool, h: [u64; 8]) -> bool
@@ -46,4 +51,37 @@ pub fn sweep(
         i += 1;
     }
     m
+}
+
+// Whether every occupied slot is claimed, so that a sweep would empty none.
+pub fn none_lost(heads: &[[u64; 8]; 64], claimed: &[bool; 64]) -> bool
+    requires { ⌜ (length (now heads) ≡ 64) × (length (now claimed) ≡ 64) ⌝ }
+    ensures { λ r. ⌜ NoneLost (now (heads .entry)) (now (claimed .entry)) r ⌝ }
+{
+    let mut i = 0usize;
+    while i < 64 {
+        let h = heads[i];
+        let kept = claimed[i];
+        if is_lost(kept, h) {
+            return false;
+        }
+        i += 1;
+    }
+    true
+}
+
+// The lowest empty slot, 64 where there is none.
+pub fn first_empty(heads: &[[u64; 8]; 64]) -> u64
+    requires { ⌜ length (now heads) ≡ 64 ⌝ }
+    ensures { λ r. ⌜ ((xs : List (List ℕ)) (ss ms : List (List Float)) → length xs ≡ 64 → length ss ≡ 64 → length ms ≡ 64 → r ≡ firstOf (emptySlots (nodesFrom (now (heads .entry)) xs ss ms))) ⌝ }
+{
+    let mut i = 0usize;
+    while i < 64 {
+        let h = heads[i];
+        if h[0] == 0 {
+            return i as u64;
+        }
+        i += 1;
+    }
+    64
 }

@@ -12,7 +12,7 @@ ghost use lib.Dec.{ltb};
 ghost use lib.ListN.{length};
 ghost use Rattle.rules.specs.Lists.{anyOf};
 ghost use Rattle.rules.specs.Tree.{barCode, axisCode, overSlot};
-ghost use Rattle.columns.specs.Pack.{slotOf, headOf, idsOf, sharesOf, minimaOf};
+ghost use Rattle.columns.specs.Pack.{Unpacks, overHead, slotOf, headOf, idsOf, sharesOf, minimaOf};
 
 // The number of a group's placement in its head.
 pub fn bar_code(b: TabBarPlacement) -> u64
@@ -148,6 +148,57 @@ pub fn minima_of(slots: [Slot; 64]) -> [[f64; 16]; 64]
         a[i] = row;
     }
     a
+}
+
+// All four columns in one pass.
+pub fn unpack(
+    slots: [Slot; 64],
+    heads: &mut [[u64; 8]; 64],
+    ids: &mut [[u64; 16]; 64],
+    shares: &mut [[f64; 16]; 64],
+    minima: &mut [[f64; 16]; 64],
+)
+    requires { ⌜ (length (now heads) ≡ 64) × (length (now ids) ≡ 64) × (length (now shares) ≡ 64) × (length (now minima) ≡ 64) ⌝ }
+    ensures { λ r. ⌜ Unpacks slots (now (heads .exit)) (now (ids .exit)) (now (shares .exit)) (now (minima .exit)) ⌝ }
+{
+    let mut i = 0usize;
+    while i < 64 {
+        let s = slots[i];
+        let h = head_of(s);
+        heads[i] = h;
+        let row = ids_row(s);
+        ids[i] = row;
+        let some = s.shares;
+        let parts = some.at;
+        shares[i] = parts;
+        let least = s.minima;
+        let sizes = least.at;
+        minima[i] = sizes;
+        i += 1;
+    }
+}
+
+// Whether a head has a length of over 16: then not all of its list is there.
+fn is_over(h: [u64; 8]) -> bool
+    ensures { λ r. ⌜ r ≡ overHead h ⌝ }
+{
+    any_over(h[4] as usize, h[5] as usize, h[6] as usize)
+}
+
+// Whether a list that a kind uses was given longer than 16, by the heads.
+pub fn heads_over(heads: &[[u64; 8]; 64]) -> bool
+    requires { ⌜ length (now heads) ≡ 64 ⌝ }
+    ensures { λ r. ⌜ r ≡ anyOf overHead (now (heads .entry)) ⌝ }
+{
+    let mut i = 0usize;
+    while i < 64 {
+        let h = heads[i];
+        if is_over(h) {
+            return true;
+        }
+        i += 1;
+    }
+    false
 }
 
 fn over_slot(s: Slot) -> bool

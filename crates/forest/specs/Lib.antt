@@ -17,3 +17,4 @@ pub mod SoundIs
 pub mod SoundCases
 pub mod Depth
 pub mod Finish
+pub mod Still

@@ -50,7 +50,7 @@ gather-append f (x ∷ xs) ys =
 
 -- ---- no node is too wide
 
-or-left : (a b : Bool) → (a || b) ≡ false → a ≡ false
+pub or-left : (a b : Bool) → (a || b) ≡ false → a ≡ false
 or-left true b e = never e
 or-left false b e = refl
 

@@ -1,2 +1,3 @@
 pub mod LoneLaws
 pub mod WholeLaws
+pub mod StillLaws

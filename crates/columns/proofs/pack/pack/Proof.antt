@@ -18,34 +18,35 @@ bare-slot-requires c κs = search needs
 loop-holds : tie.Need-loop-holds Inv-loop μ-loop
 loop-holds c =
     let b = c .before .args in
-    packing-start (b .t1) (b .t2) (b .t3) (b .t4) (c .bare-slot .result) (c .bare-slot .ensures) (search needs) (search needs) (search needs) (search needs)
+    let p = c .before .pre in
+    packing-start (b .heads .now) (b .ids .now) (b .shares .now) (b .minima .now) (c .bare-slot .result) (c .bare-slot .ensures) (p .0) (p .1) (p .2) (p .3)
 
-mul-slot-of : tie.Need-mul-slot-of Inv-loop μ-loop
-mul-slot-of c = search needs
+mul-h : tie.Need-mul-h Inv-loop μ-loop
+mul-h c = search needs
 
-array-copy-out-slot-of : tie.Need-array-copy-out-slot-of Inv-loop μ-loop
-array-copy-out-slot-of c = search needs
+element-copy-out-h : tie.Need-element-copy-out-h Inv-loop μ-loop
+element-copy-out-h c = let h = c .before in omega (arith, h .loop .inv .heads)
 
-mul-slot-of-2 : tie.Need-mul-slot-of-2 Inv-loop μ-loop
-mul-slot-of-2 c = search needs
+mul-row : tie.Need-mul-row Inv-loop μ-loop
+mul-row c = search needs
 
-array-copy-out-slot-of-2 : tie.Need-array-copy-out-slot-of-2 Inv-loop μ-loop
-array-copy-out-slot-of-2 c = search needs
+element-copy-out-row : tie.Need-element-copy-out-row Inv-loop μ-loop
+element-copy-out-row c = let h = c .before .before in omega (arith, h .loop .inv .ids)
 
-mul-slot-of-3 : tie.Need-mul-slot-of-3 Inv-loop μ-loop
-mul-slot-of-3 c = search needs
+mul-parts : tie.Need-mul-parts Inv-loop μ-loop
+mul-parts c = search needs
 
-array-copy-out-slot-of-3 : tie.Need-array-copy-out-slot-of-3 Inv-loop μ-loop
-array-copy-out-slot-of-3 c = search needs
+element-copy-out-parts : tie.Need-element-copy-out-parts Inv-loop μ-loop
+element-copy-out-parts c = let h = c .before .before .before in omega (arith, h .loop .inv .shares)
 
-mul-slot-of-4 : tie.Need-mul-slot-of-4 Inv-loop μ-loop
-mul-slot-of-4 c = search needs
+mul-least : tie.Need-mul-least Inv-loop μ-loop
+mul-least c = search needs
 
-array-copy-out-slot-of-4 : tie.Need-array-copy-out-slot-of-4 Inv-loop μ-loop
-array-copy-out-slot-of-4 c = search needs
+element-copy-out-least : tie.Need-element-copy-out-least Inv-loop μ-loop
+element-copy-out-least c = let h = c .before .before .before .before in omega (arith, h .loop .inv .minima)
 
 slot-of-requires : tie.Need-slot-of-requires Inv-loop μ-loop
-slot-of-requires c κs = c .before .before .before .before .before .before .before .pre (c .before .before .before .before .before .loop .i)
+slot-of-requires c κs = let h = c .before .before .before .before .before in h .before .before .pre .4 (h .loop .i)
 
 mul-a : tie.Need-mul-a Inv-loop μ-loop
 mul-a c = search needs
@@ -63,13 +64,13 @@ loop-again : tie.Need-loop-again Inv-loop μ-loop
 loop-again c =
     let h = c .before .before .before .before .before .before in
     let b = h .before .before .args in
-    packing-more (b .t1) (b .t2) (b .t3) (b .t4) (h .loop .i) (h .loop .a) (c .slot-of .result) (h .loop .inv) (omega arith) (c .slot-of .ensures)
+    packing-more (b .heads .now) (b .ids .now) (b .shares .now) (b .minima .now) (h .loop .i) (h .loop .a) (c .slot-of .result) (h .loop .inv) (omega arith) (c .slot-of .ensures)
 
 returns : tie.Need-returns Inv-loop μ-loop
 returns c =
     let h = c .before in
     let b = h .before .before .args in
-    packing-all (b .t1) (b .t2) (b .t3) (b .t4) (h .loop .i) (h .loop .a) (h .loop .inv) (omega arith)
+    packing-all (b .heads .now) (b .ids .now) (b .shares .now) (b .minima .now) (h .loop .i) (h .loop .a) (h .loop .inv) (omega arith)
 
 pub pack-spec : {M : Type 1} → statement M
 pack-spec =
@@ -79,14 +80,14 @@ pack-spec =
     μ-loop
     bare-slot-requires
     loop-holds
-    mul-slot-of
-    array-copy-out-slot-of
-    mul-slot-of-2
-    array-copy-out-slot-of-2
-    mul-slot-of-3
-    array-copy-out-slot-of-3
-    mul-slot-of-4
-    array-copy-out-slot-of-4
+    mul-h
+    element-copy-out-h
+    mul-row
+    element-copy-out-row
+    mul-parts
+    element-copy-out-parts
+    mul-least
+    element-copy-out-least
     slot-of-requires
     mul-a
     array-set-from-a
