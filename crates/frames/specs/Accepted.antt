@@ -3,7 +3,7 @@ use mathlib.Core.Path.{_≡_, refl, sym, ap, subst, _∙_}
 use mathlib.Core.Logic.{_⊎_, inl, inr}
 use mathlib.Core.Bool.{Bool, true, false, _&&_, _||_, cond}
 use mathlib.Core.List.{List, [], _∷_}
-use Prim.Native.Nat.{ℕ, zero, _*_, _^_, _≤_}
+use Prim.Native.Nat.{ℕ, zero, _*_, _^_, _≤_, _<_, suc}
 use native.Mathlib.Omega.{arith}
 use native.Mathlib.Decide.{ℕ-discrete}
 use borrow.Author.Tests.{ltb-true}
@@ -13,17 +13,19 @@ use lib.Ieee.{Float, nan, inf, fin, binary64, up, down, lt, le, eq, fits}
 use lib.Ieee.Fits.{and-i, and-l, and-r, cond-fits}
 use lib.Ieee.Scale.{finite}
 use Rattle.rules.specs.Numbers.{zero-f, plus, minimumOk}
-use Rattle.rules.specs.Tree.{Node, empty, pane, tabs, split, Arena, wideNode}
+use Rattle.rules.specs.Tree.{Node, empty, pane, tabs, split, Arena, wideNode, readingFrom, Member}
 use Rattle.rules.specs.Sound.{sound}
 use Rattle.rules.specs.Tabs.{majorSize}
-use Rattle.rules.specs.Frame.{Item, focusItem, paneItem, barItem, tabItem, childItem, handleItem, limit, minus-limit, coordinateOk, thicknessOk, boundsOk, sizeOk, inputOk, plusInput, childOf, gather, layoutItems, layoutBy, layoutInputBy, layout, Frame, frameOf}
+use Rattle.rules.specs.Frame.{Item, focusItem, paneItem, barItem, tabItem, childItem, handleItem, limit, minus-limit, coordinateOk, thicknessOk, boundsOk, sizeOk, inputOk, plusInput, childTotal, childMinima, splitLengths, childOf, gather, layoutItems, layoutBy, layoutInputBy, layout, Frame, frameOf}
 use Rattle.rules.specs.declared.model.TileId.{TileId}
 use Rattle.rules.specs.declared.refusal.Answer.the-variants.{Accepted, Refused}
 use Rattle.rules.specs.declared.refusal.Refusal.{Refusal}
 use Rattle.rules.specs.declared.model.Axis.{Axis}
 use Rattle.rules.specs.declared.model.Axis.the-variants.{Horizontal, Vertical}
 use Rattle.rules.specs.declared.frame.LayoutInput.{LayoutInput}
-use Rattle.forest.specs.Lists.{All}
+use Rattle.rules.specs.declared.frame.SplitChildFrame.{SplitChildFrame}
+use Rattle.rules.specs.Solver.{sumOf}
+use Rattle.forest.specs.Lists.{member-all, All}
 use Rattle.forest.specs.Quiet.{plainNode, plainNodes}
 use Rattle.forest.specs.Settled.{Lone}
 use Rattle.forest.specs.SoundCases.{Plain, sound-cases}
@@ -31,6 +33,10 @@ use Rattle.number.specs.Arithmetic.{zero-fits}
 use Rattle.frames.specs.Fits.{narrow-at}
 use Rattle.frames.specs.Sizes.{Small, small-more, small-finite, small-zero}
 use Rattle.frames.specs.Splits.{Bounded, Sane}
+use Rattle.solver.specs.Demand.{Over, no-pairs, pair}
+use Rattle.number.specs.Each.{all-at}
+use Rattle.frames.specs.Counted.{lengths-counted}
+use Rattle.frames.specs.Splitwise.{Children, every-child}
 use Rattle.frames.specs.Demand.{Fair, FairItem, Real64, tile-fair}
 
 -- ---- good input is not huge
@@ -195,3 +201,50 @@ frame-fair a i size R N e =
     subst (λ (x : Frame). All (Fair (a .nodes) (plusInput i)) (x .splitChildren)) (sym f)
     (children-fair (a .nodes) (plusInput i) (layoutItems a (plusInput i))
     (tile-fair (a .nodes) (plusInput i) (input-sane i ok N) R (sound-narrow a size s) 64 24 (omega arith) (omega arith) (a .root) (plusInput i .bounds) (input-bounded i ok)))
+
+-- ---- the same in the order's words
+
+module _ {ns : List Node} {i : LayoutInput} {x : SplitChildFrame} (f : Fair ns i x) where
+  -- the length left after the split's handles; the child's minimum and its solved length
+  abbrev pub room : Float
+  room = childTotal (f .axis) (length (f .children)) (f .within) i
+
+  abbrev pub least : Float
+  least = getD (childMinima (f .axis) (length (f .children)) (f .minima) i) (x .index) zero-f
+
+  abbrev pub solved : Float
+  solved = getD (splitLengths (f .axis) (length (f .children)) (f .shares) (f .minima) (f .within) i .lengths) (x .index) zero-f
+
+  inside-many : x .index < length (splitLengths (f .axis) (length (f .children)) (f .shares) (f .minima) (f .within) i .lengths)
+  inside-many = let z = lengths-counted (f .axis) (length (f .children)) (f .shares) (f .minima) (f .within) i in omega (arith, f .counted, z)
+
+  -- every child's solved length lies between zero and that length
+  pub child-within : T (le zero-f solved) × T (le solved room)
+  child-within = all-at (x .index) zero-f (f .meets .inside) inside-many
+
+  -- if the left-to-right sum of the minima is below it, the solved length is at least the child's own minimum
+  pub child-held : T (lt (sumOf (childMinima (f .axis) (length (f .children)) (f .minima) i)) room) → T (le least solved)
+  child-held t = over-at (x .index) (f .meets .held t) (let z = lengths-counted (f .axis) (length (f .children)) (f .shares) (f .minima) (f .within) i in let y = f .meets .many in omega (arith, f .counted, z, y))
+    where
+      over-at : {ms xs : List Float} (k : ℕ) → Over ms xs → k < length ms → T (le (getD ms k zero-f) (getD xs k zero-f))
+      over-at k no-pairs h = absurd (omega arith)
+      over-at zero (pair p ps) h = p
+      over-at (suc k) (pair p ps) h = over-at k ps (omega arith)
+
+  -- the solver's passes number at most the children
+  pub split-passes : splitLengths (f .axis) (length (f .children)) (f .shares) (f .minima) (f .within) i .passes ≤ length (f .children)
+  split-passes =
+      let z = lengths-counted (f .axis) (length (f .children)) (f .shares) (f .minima) (f .within) i in
+      let y = f .meets .many in
+      let w = f .meets .few in
+      omega (arith, z, y, w)
+
+-- take any split that is read from the root, and any of its children: it has an entry in the frame, and the entry is fair
+pub demand-3 : (a : Arena) (i : LayoutInput) → length (a .nodes) ≡ 64 → Reals64 a → InputReal i → layout a i .answer ≡ Accepted
+    → (u : TileId) → Member u (readingFrom (a .nodes) (a .root)) → (j : ℕ) → j < Children (a .nodes) u
+    → (x : SplitChildFrame) × Member x (layout a i .frame .splitChildren) × (x .split ≡ u) × (x .index ≡ j) × Fair (a .nodes) (plusInput i) x
+demand-3 a i size R N e u m j h =
+    let (s, ok, f) = laid-is a i e in
+    let (x, p, q, r) = every-child a (plusInput i) size s u m j h in
+    let p′ = subst (λ (y : Frame). Member x (y .splitChildren)) (sym f) p in
+    (x, p′, q, r, member-all (Fair (a .nodes) (plusInput i)) x (layout a i .frame .splitChildren) p′ (frame-fair a i size R N e))
