@@ -61,10 +61,11 @@ fn place(
     let slots = t.slots;
     let top = t.root;
     columns::slots::sized(slots);
-    let heads = columns::unpack::heads_of(slots);
-    let ids = columns::unpack::ids_of(slots);
-    let shares = columns::unpack::shares_of(slots);
-    let minima = columns::unpack::minima_of(slots);
+    let mut heads = [[0u64; 8]; 64];
+    let mut ids = [[0u64; 16]; 64];
+    let mut shares = [[0.0f64; 16]; 64];
+    let mut minima = [[0.0f64; 16]; 64];
+    columns::unpack::unpack(slots, &mut heads, &mut ids, &mut shares, &mut minima);
     root_row(&ids, top.slot);
     let bounds = input.bounds;
     tiles::layout_tile(
