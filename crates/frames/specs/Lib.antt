@@ -8,3 +8,4 @@ pub mod Sizes
 pub mod Splits
 pub mod Demand
 pub mod Accepted
+pub mod Finite

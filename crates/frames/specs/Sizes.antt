@@ -115,7 +115,7 @@ pub record Held (c k : ℕ) : Type 0 where
 pub held : (c k : ℕ) → c ≤ 64 → k ≤ 900 → Held c k
 held c k h g = record { few = omega (arith, h); low-power = g }
 
-held-value : (c k : ℕ) → Held c k → HasValue (round binary64 false (c * 2 ^ k) 1) false (c * 2 ^ k) 1
+pub held-value : (c k : ℕ) → Held c k → HasValue (round binary64 false (c * 2 ^ k) 1) false (c * 2 ^ k) 1
 held-value c k H =
     round-exact binary64 false (c * 2 ^ k) 1 c (k + low binary64) (omega arith) (H .few) fine (mul-assoc c (2 ^ k) (2 ^ low binary64) ∙ ap (λ (x : ℕ). c * x) (sym (pow-add 2 k (low binary64))) ∙ sym (mul-one (c * 2 ^ (k + low binary64))))
   where
@@ -179,6 +179,10 @@ mul-small a b c k H e (fin s m d) (fin t n r) h g =
 pub whole-small : (n c : ℕ) → Held c 0 → n ≤ c → Small (c * 2 ^ 0) (whole n)
 unfolding ofInt
 whole-small n c H h = round-small false n 1 c 0 H (omega arith) (let q : n ≤ c * 2 ^ 0 * 1 = omega (arith, h) in q)
+
+pub whole-value : (n : ℕ) → n ≤ 64 → HasValue (whole n) false n 1
+unfolding ofInt
+whole-value n h = subst (λ (m : ℕ). HasValue (round binary64 false m 1) false m 1) (mul-one n) (held-value n 0 (held n 0 h (omega arith)))
 
 -- the larger of two
 pub larger-small : (b : ℕ) (x y : Float) → Small b x → Small b y → Small b (larger x y)
