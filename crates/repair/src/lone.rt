@@ -44,7 +44,7 @@ fn is_empty_group(s: Slot) -> bool
     }
 }
 
-fn is_empty(s: Slot) -> bool
+pub fn is_empty(s: Slot) -> bool
     ensures { λ r. ⌜ r ≡ isEmpty (viewSlot s) ⌝ }
 {
     let k = s.kind;

@@ -1,0 +1,3 @@
+-- What the operations promise, and laws of the rules that their proofs cite.
+pub mod Find
+pub mod Trees

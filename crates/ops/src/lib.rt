@@ -1,0 +1,1 @@
+// Operations on a tree: the Rust's apply and what it calls (tree.rs).
