@@ -1,11 +1,12 @@
 -- Laws of a whole repair, over plain values: how it begins, and how each end of the walk gives the rule's answer. Assumes nothing.
 use mathlib.Core.Path.{_≡_, refl, sym, ap, subst, _∙_}
+use mathlib.Core.Logic.{_⊎_, inl, inr}
 use mathlib.Core.Bool.{Bool, true, false, _&&_, _||_}
 use mathlib.Core.List.{List, [], _∷_, map}
 use mathlib.Core.Option.{Option, none, some}
 use Prim.Native.Nat.{ℕ, zero, suc, _+_, _*_, _≤_, _<_}
 use native.Mathlib.Omega.{arith}
-use borrow.Author.Tests.{le-ltb, ne-eqb}
+use borrow.Author.Tests.{le-ltb, ne-eqb, ltb-true, ltb-false}
 use lib.Dec.{eqb, ltb}
 use lib.ListN.{length, getD, take, set, replicate, length-map, length-take, length-set}
 use lib.Ieee.{Float}
@@ -23,11 +24,11 @@ use Rattle.forest.specs.Lists.{All, free}
 use Rattle.forest.specs.Soundness.{slots-inside}
 use Rattle.forest.specs.SoundIs.{sound-is}
 use Rattle.forest.specs.Sweep.{actionsBy}
-use Rattle.forest.specs.Finish.{finishedAs, repair-over, repair-kept, repair-wide, repair-full, repair-fresh}
+use Rattle.forest.specs.Finish.{finishedAs, normalized, repair-over, repair-whole, normalized-kept, normalized-wide, normalized-full, normalized-fresh}
 use Rattle.repair.specs.Columns.{Cols, cols, nodesIn, nodeBy, nodeFrom, nodesFrom, Slim, Sized, Shows, Lists}
 use Rattle.repair.specs.Walked.{Walked}
 use Rattle.repair.specs.Pack.{headOf, idsOf, sharesOf, minimaOf, Sweeps, firstOf, actionOf, reported}
-use Rattle.repair.specs.Whole.{repaired, Repairs, Refuses, Finishes, Plants}
+use Rattle.repair.specs.Whole.{repaired, Repairs, Normalizes, Refuses, Finishes, Plants}
 use Rattle.repair.specs.declared.Counts.{Counts}
 use Rattle.repair.specs.declared.Listed.{Listed}
 use Rattle.repair.specs.declared.Repairing.{Repairing}
@@ -68,20 +69,32 @@ narrow-set (n ∷ ns) (suc i) e =
 
 -- ---- refused: the tree as it was given
 
-pub refused-repairs : (t : TileTree) (e : Refusal) (r : Repairing) → Refuses t e r → repair (view t) ≡ refusedRepair e (view t) → Repairs t r
-refused-repairs t e r R u = ((λ z. record { answer = R .answer z; tree = view (R .tree z); actions = R .actions z }) ∙ sym u, λ f q. R .tree)
+refused-is : (t : TileTree) (e : Refusal) (r : Repairing) → Refuses t e r → repaired r ≡ refusedRepair e (view t)
+refused-is t e r R z = record { answer = R .answer z; tree = view (R .tree z); actions = R .actions z }
 
 pub over-repairs : (t : TileTree) (r : Repairing) → Refuses t TooWide r → anyOf overSlot (t .slots) ≡ true → Repairs t r
-over-repairs t r R e = refused-repairs t TooWide r R (repair-over (view t) e)
+over-repairs t r R e = (refused-is t TooWide r R ∙ sym (repair-over (view t) e), λ f q. R .tree)
+
+refused-normalizes : (t : TileTree) (spare : ℕ) (e : Refusal) (r : Repairing) → Refuses t e r
+    → ((free : List ℕ) → All (λ i. i < 64) free → spare ≡ firstOf free → normalized (view t) free ≡ refusedRepair e (view t)) → Normalizes t spare r
+refused-normalizes t spare e r R u = record { right = λ free h q. refused-is t e r R ∙ sym (u free h q); given = λ f q. R .tree }
 
 -- ---- accepted
 
-finished-repairs : (t : TileTree) (s : ℕ) (r : Repairing) (ns : List Node) (cs : List Bool) (acts : List (List ℕ)) (n : ℕ) → Finishes ns cs acts n (t .revision) s r
-    → (l : List RepairAction) → Lists acts n l → repair (view t) ≡ finishedAs (view t) (tile s) cs ns l → Repairs t r
-finished-repairs t s r ns cs acts n F l g e = ((λ z. record { answer = F .answer z; tree = F .tree z; actions = F .actions l g z }) ∙ sym e, λ f q. absurd (told (F .answer) q))
+finished-normalizes : (t : TileTree) (spare s : ℕ) (r : Repairing) (ns : List Node) (cs : List Bool) (acts : List (List ℕ)) (n : ℕ) → Finishes ns cs acts n (t .revision) s r
+    → (l : List RepairAction) → Lists acts n l
+    → ((free : List ℕ) → All (λ i. i < 64) free → spare ≡ firstOf free → normalized (view t) free ≡ finishedAs (view t) (tile s) cs ns l) → Normalizes t spare r
+finished-normalizes t spare s r ns cs acts n F l g u =
+    record { right = λ free h q. (λ z. record { answer = F .answer z; tree = F .tree z; actions = F .actions l g z }) ∙ sym (u free h q); given = λ f q. absurd (told (F .answer) q) }
   where
     told : {x : Answer} {f : Refusal} → x ≡ Accepted → x ≡ Refused f → ⊥
     told p q = let z : _≡_ {A = ℕ} 0 1 = cc in omega arith
+
+-- ---- repair is normalize with the slots that are empty
+
+pub whole-repairs : (t : TileTree) (spare : ℕ) (r : Repairing) → length (t .slots) ≡ 64 → anyOf overSlot (t .slots) ≡ false → spare ≡ firstOf (emptySlots (map viewSlot (t .slots))) → Normalizes t spare r → Repairs t r
+whole-repairs t spare r size whole e N =
+    (N .right (emptySlots (view t .nodes)) (slots-inside (view t .nodes) (length-map (t .slots) viewSlot ∙ size)) e ∙ sym (repair-whole (view t) whole), N .given)
 
 -- the sweep, the packing and the report, one after another
 pub finishes : (hs xs : List (List ℕ)) (ss ms : List (List Float)) (cs : List Bool) (acts : List (List ℕ)) (n : ℕ) (hs′ acts′ : List (List ℕ)) (m revision root : ℕ) (r : Repairing)
@@ -112,7 +125,7 @@ module _ (hs xs : List (List ℕ)) (ss ms : List (List Float)) (seen : List ℕ)
 
 -- ---- and ends
 
-module _ (t : TileTree) (size : length (t .slots) ≡ 64) (whole : anyOf overSlot (t .slots) ≡ false) (C : Cols) (few : free (C .claimed) ≤ 64) (shown : Shows C (begin (view t .nodes))) (D : Cols) (r : Repairing) where
+module _ (t : TileTree) (size : length (t .slots) ≡ 64) (C : Cols) (few : free (C .claimed) ≤ 64) (shown : Shows C (begin (view t .nodes))) (D : Cols) (spare : ℕ) (r : Repairing) where
   abbrev a : Arena
   a = view t
 
@@ -123,33 +136,46 @@ module _ (t : TileTree) (size : length (t .slots) ≡ 64) (whole : anyOf overSlo
   long = length-map (t .slots) viewSlot ∙ size
 
   -- a tile was kept
-  pub ended-kept : (s : ℕ) → Walked C D (At s) (t .root .slot) → Finishes (nodesIn D) (D .claimed) (D .acts) (D .counts .acts) (t .revision) s r → Repairs t r
+  pub ended-kept : (s : ℕ) → Walked C D (At s) (t .root .slot) → Finishes (nodesIn D) (D .claimed) (D .acts) (D .counts .acts) (t .revision) s r → Normalizes t spare r
   ended-kept s W F =
       let (k, S) = W .right (begin (a .nodes)) shown 64 few in
-      finished-repairs t s r (nodesIn D) (D .claimed) (D .acts) (D .counts .acts) F (o .work .actions) (S .actions)
-      (repair-kept a long whole (tile s) k (ap (anyOf wideNode) (S .nodes) ∙ narrow-in D (W .sized)) ∙ (λ z. finishedAs a (tile s) (S .claimed z) (S .nodes z) (o .work .actions)))
+      finished-normalizes t spare s r (nodesIn D) (D .claimed) (D .acts) (D .counts .acts) F (o .work .actions) (S .actions)
+      (λ free h q. normalized-kept a long free (tile s) k (ap (anyOf wideNode) (S .nodes) ∙ narrow-in D (W .sized)) ∙ (λ z. finishedAs a (tile s) (S .claimed z) (S .nodes z) (o .work .actions)))
 
   -- a list passed 16
-  pub ended-wide : Walked C D Wide (t .root .slot) → Refuses t TooWide r → Repairs t r
-  ended-wide W R = refused-repairs t TooWide r R (repair-wide a long whole (W .right (begin (a .nodes)) shown 64 few))
+  pub ended-wide : Walked C D Wide (t .root .slot) → Refuses t TooWide r → Normalizes t spare r
+  ended-wide W R = refused-normalizes t spare TooWide r R (λ free h q. normalized-wide a long free (W .right (begin (a .nodes)) shown 64 few))
 
   -- nothing was kept
-  pub ended-gone : Walked C D Gone (t .root .slot) → (spare : ℕ) → spare ≡ firstOf (emptySlots (a .nodes)) → Plants t (nodesIn D) (D .claimed) (D .acts) (D .counts .acts) spare r → Repairs t r
-  ended-gone W spare e P = go (emptySlots (a .nodes)) refl
+  pub ended-gone : Walked C D Gone (t .root .slot) → Plants t (nodesIn D) (D .claimed) (D .acts) (D .counts .acts) spare r → Normalizes t spare r
+  ended-gone W P = go (below-or-not spare 64)
     where
-      go : (is : List ℕ) → emptySlots (a .nodes) ≡ is → Repairs t r
-      go [] q =
-          let none-left : spare ≡ 64 = e ∙ ap firstOf q in
-          refused-repairs t ArenaFull r (P .full (omega arith)) (repair-full a long whole (W .right (begin (a .nodes)) shown 64 few .0) q)
-      go (i ∷ is) q =
-          let first : spare ≡ i = e ∙ ap firstOf q in
-          let inside : i < 64 = subst (All (λ j. j < 64)) q (slots-inside (a .nodes) long) .0 in
+      below-or-not : (m n : ℕ) → (m < n) ⊎ (n ≤ m)
+      below-or-not m n = by (ltb m n) refl
+        where
+          by : (b : Bool) → ltb m n ≡ b → (m < n) ⊎ (n ≤ m)
+          by true e = inl (ltb-true m n e)
+          by false e = inr (ltb-false m n e)
+
+      none-free : 64 ≤ spare → (free : List ℕ) → All (λ i. i < 64) free → spare ≡ firstOf free → free ≡ []
+      none-free h [] i q = refl
+      none-free h (x ∷ xs) i q = absurd (omega (arith, h, i .0, q))
+
+      some-free : spare < 64 → (free : List ℕ) → spare ≡ firstOf free → (is : List ℕ) × (free ≡ spare ∷ is)
+      some-free h [] q = absurd (omega (arith, h, q))
+      some-free h (x ∷ xs) q = (xs, ap (λ (y : ℕ). y ∷ xs) (sym q))
+
+      go : (spare < 64) ⊎ (64 ≤ spare) → Normalizes t spare r
+      go (inr h) =
+          refused-normalizes t spare ArenaFull r (P .full h)
+          (λ free i q. normalized-full a long free (W .right (begin (a .nodes)) shown 64 few .0) (none-free h free i q))
+      go (inl h) =
           let (k, S) = W .right (begin (a .nodes)) shown 64 few in
-          finished-repairs t i r (setNode (tile i) emptyGroup (nodesIn D)) (set (D .claimed) i true) (D .acts) (D .counts .acts)
-          (subst (λ (j : ℕ). Finishes (setNode (tile j) emptyGroup (nodesIn D)) (set (D .claimed) j true) (D .acts) (D .counts .acts) (t .revision) j r) first (P .fresh (omega arith)))
-          (o .work .actions) (S .actions)
-          (repair-fresh a long whole k i is q (narrow-set (o .work .state .nodes) i (ap (anyOf wideNode) (S .nodes) ∙ narrow-in D (W .sized)))
-          ∙ (λ z. finishedAs a (tile i) (set (S .claimed z) i true) (setNode (tile i) emptyGroup (S .nodes z)) (o .work .actions)))
+          finished-normalizes t spare spare r (setNode (tile spare) emptyGroup (nodesIn D)) (set (D .claimed) spare true) (D .acts) (D .counts .acts) (P .fresh h) (o .work .actions) (S .actions)
+          (λ free i q.
+          let (is, e) = some-free h free q in
+          normalized-fresh a long free k spare is e h (narrow-set (o .work .state .nodes) spare (ap (anyOf wideNode) (S .nodes) ∙ narrow-in D (W .sized)))
+          ∙ (λ z. finishedAs a (tile spare) (set (S .claimed z) spare true) (setNode (tile spare) emptyGroup (S .nodes z)) (o .work .actions)))
 
 -- ---- the same of a tree's columns
 
@@ -176,7 +202,7 @@ module _ (t : TileTree) (whole : anyOf overSlot (t .slots) ≡ false) (hs xs : L
       start-sized hs xs ss ms seen acts (ap length eh ∙ length-map (t .slots) headOf ∙ size) ids-long shares-long minima-long
       (λ i. subst (λ (l : List (List ℕ)). Slim (getD l i [])) (sym eh) (unpacked-slim (t .slots) whole i))
 
-  module _ (D : Cols) (k : Kept) (W : Walked (start hs xs ss ms seen acts) D k (t .root .slot)) (r : Repairing) where
+  module _ (D : Cols) (k : Kept) (W : Walked (start hs xs ss ms seen acts) D k (t .root .slot)) (spare : ℕ) (r : Repairing) where
     abbrev C : Cols
     C = start hs xs ss ms seen acts
 
@@ -186,15 +212,14 @@ module _ (t : TileTree) (whole : anyOf overSlot (t .slots) ≡ false) (hs xs : L
     told : (q : Kept) → k ≡ q → Walked C D q (t .root .slot)
     told q e = subst (λ (x : Kept). Walked C D x (t .root .slot)) e W
 
-    pub whole-kept : (s : ℕ) → k ≡ At s → Finishes (nodesIn D) (D .claimed) (D .acts) (D .counts .acts) (t .revision) s r → Repairs t r
-    whole-kept s e F = ended-kept t size whole C (omega arith) shown D r s (told (At s) e) F
+    pub whole-kept : (s : ℕ) → k ≡ At s → Finishes (nodesIn D) (D .claimed) (D .acts) (D .counts .acts) (t .revision) s r → Normalizes t spare r
+    whole-kept s e F = ended-kept t size C (omega arith) shown D spare r s (told (At s) e) F
 
-    pub whole-gone : (spare : ℕ) → k ≡ Gone
-        → ((ys : List (List ℕ)) (us ns : List (List Float)) → length ys ≡ 64 → length us ≡ 64 → length ns ≡ 64 → spare ≡ firstOf (emptySlots (nodesFrom hs ys us ns))) → Plants t (nodesIn D) (D .claimed) (D .acts) (D .counts .acts) spare r → Repairs t r
-    whole-gone spare e q P = ended-gone t size whole C (omega arith) shown D r (told Gone e) spare (q xs ss ms ids-long shares-long minima-long ∙ ap (λ (ns : List Node). firstOf (emptySlots ns)) shows) P
+    pub whole-gone : k ≡ Gone → Plants t (nodesIn D) (D .claimed) (D .acts) (D .counts .acts) spare r → Normalizes t spare r
+    whole-gone e P = ended-gone t size C (omega arith) shown D spare r (told Gone e) P
 
-    pub whole-wide : k ≡ Wide → Refuses t TooWide r → Repairs t r
-    whole-wide e R = ended-wide t size whole C (omega arith) shown D r (told Wide e) R
+    pub whole-wide : k ≡ Wide → Refuses t TooWide r → Normalizes t spare r
+    whole-wide e R = ended-wide t size C (omega arith) shown D spare r (told Wide e) R
 
 -- ---- soundness, from a repair's answer
 

@@ -11,9 +11,11 @@ use Rattle.rules.specs.declared.model.RepairAction.{RepairAction}
 use Rattle.rules.specs.declared.refusal.Answer.the-variants.{Accepted, Refused}
 use Rattle.rules.specs.declared.refusal.Refusal.{Refusal}
 use Rattle.rules.specs.declared.refusal.Refusal.the-variants.{ArenaFull}
+use Rattle.forest.specs.Lists.{All}
 use Rattle.forest.specs.Sweep.{sweptBy, actionsBy}
+use Rattle.forest.specs.Finish.{normalized}
 use Rattle.repair.specs.Columns.{Lists}
-use Rattle.repair.specs.Pack.{reported}
+use Rattle.repair.specs.Pack.{firstOf, reported}
 use Rattle.repair.specs.declared.Repairing.{Repairing}
 
 -- what a repair answered, as the rule has it
@@ -23,6 +25,11 @@ repaired r = record { answer = r .answer; tree = view (r .tree); actions = repor
 -- the rule's answer; and a refused tree is the tree given, to the last place of its lists
 abbrev pub Repairs : TileTree → Repairing → Type 0
 Repairs t r = (repaired r ≡ repair (view t)) × ((e : Refusal) → r .answer ≡ Refused e → r .tree ≡ t)
+
+-- normalize_with_report: the same with any list of free slots whose first is the spare one
+pub record Normalizes (t : TileTree) (spare : ℕ) (r : Repairing) : Type 0 where
+  pub right : (free : List ℕ) → All (λ i. i < 64) free → spare ≡ firstOf free → repaired r ≡ normalized (view t) free
+  pub given : (e : Refusal) → r .answer ≡ Refused e → r .tree ≡ t
 
 pub record Refuses (t : TileTree) (e : Refusal) (r : Repairing) : Type 0 where
   pub answer : r .answer ≡ Refused e

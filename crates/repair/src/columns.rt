@@ -1,4 +1,4 @@
-// A tree's slots as columns and back, the test of lists given too long, the sweep, the lowest empty slot, and the report of actions: what stands
+// A tree's slots as columns and back, the test of lists given too long, the sweep, and the report of actions: what stands
 // before and after the walk.
 use crate::Listed;
 use crate::Report;
@@ -20,9 +20,9 @@ ghost use lib.Dec.{eqb, ltb};
 ghost use lib.Ieee.{Float};
 ghost use lib.ListN.{length, getD, take};
 ghost use Rattle.rules.specs.Lists.{anyOf};
-ghost use Rattle.rules.specs.Tree.{Node, tile, barCode, axisCode, viewSlot, overSlot, emptySlots};
+ghost use Rattle.rules.specs.Tree.{Node, tile, barCode, axisCode, viewSlot, overSlot};
 ghost use Rattle.repair.specs.Columns.{barFrom, axisFrom, nodeFrom, nodesFrom, Slim, Lists};
-ghost use Rattle.repair.specs.Pack.{slotOf, headOf, idsOf, sharesOf, minimaOf, sweptHead, Sweeps, firstOf, actionFrom, listedFrom, reported};
+ghost use Rattle.repair.specs.Pack.{slotOf, headOf, idsOf, sharesOf, minimaOf, sweptHead, Sweeps, actionFrom, listedFrom, reported};
 
 // ---- from slots to columns
 
@@ -388,23 +388,6 @@ pub fn sweep(
         i += 1;
     }
     m
-}
-
-// ---- the lowest empty slot, 64 where there is none
-
-pub fn first_empty(heads: &[[u64; 8]; 64]) -> u64
-    requires { ⌜ length (now heads) ≡ 64 ⌝ }
-    ensures { λ r. ⌜ ((xs : List (List ℕ)) (ss ms : List (List Float)) → length xs ≡ 64 → length ss ≡ 64 → length ms ≡ 64 → r ≡ firstOf (emptySlots (nodesFrom (now (heads .entry)) xs ss ms))) ⌝ }
-{
-    let mut i = 0usize;
-    while i < 64 {
-        let h = heads[i];
-        if h[0] == 0 {
-            return i as u64;
-        }
-        i += 1;
-    }
-    64
 }
 
 // ---- the report

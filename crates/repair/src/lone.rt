@@ -10,8 +10,9 @@ ghost use mathlib.Core.List.{map};
 ghost use lib.Dec.{eqb};
 ghost use lib.ListN.{length};
 ghost use Rattle.rules.specs.Lists.{allOf};
-ghost use Rattle.rules.specs.Tree.{tile, view, viewSlot, clearNode, isEmpty, emptyGroup, barCode, sameNode};
+ghost use Rattle.rules.specs.Tree.{tile, view, viewSlot, clearNode, isEmpty, emptySlots, emptyGroup, barCode, sameNode};
 ghost use Rattle.rules.specs.Sound.{loneEmptyRoot};
+ghost use Rattle.repair.specs.Pack.{firstOf};
 
 fn both(a: bool, b: bool) -> bool
     ensures { λ r. ⌜ r ≡ (a && b) ⌝ }
@@ -79,6 +80,21 @@ fn others_empty(slots: [Slot; 64], root: u64) -> bool
         i += 1;
     }
     true
+}
+
+// The lowest empty slot, 64 where there is none.
+pub fn first_empty(slots: [Slot; 64]) -> u64
+    ensures { λ r. ⌜ r ≡ firstOf (emptySlots (map viewSlot slots)) ⌝ }
+{
+    let mut i = 0usize;
+    while i < 64 {
+        let s = slots[i];
+        if is_empty(s) {
+            return i as u64;
+        }
+        i += 1;
+    }
+    64
 }
 
 // The slots of a tree are 64.

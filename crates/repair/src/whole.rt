@@ -22,7 +22,7 @@ ghost use Rattle.rules.specs.Sound.{isAccepted, isNone, sound};
 ghost use Rattle.rules.specs.declared.refusal.Answer.the-variants as Answers;
 ghost use Rattle.repair.specs.Columns.{nodesFrom, Slim};
 ghost use Rattle.repair.specs.Pack.{reported};
-ghost use Rattle.repair.specs.Whole.{repaired, Repairs, Refuses, Finishes, Plants};
+ghost use Rattle.repair.specs.Whole.{repaired, Normalizes, Refuses, Finishes, Plants};
 
 fn refused(t: TileTree, e: Refusal) -> Repairing
     ensures { λ r. ⌜ Refuses t e r ⌝ }
@@ -115,10 +115,10 @@ fn plant(
     )
 }
 
-// normalize_with_report, of a tree whose lists are all there.
-fn normalize_with_report(t: TileTree) -> Repairing
+// normalize_with_report, of a tree whose lists are all there. A fresh root goes into the spare slot; 64 stands for no slot.
+pub fn normalize_with_report(t: TileTree, spare: u64) -> Repairing
     requires { ⌜ anyOf overSlot (t .slots) ≡ Bool.false ⌝ }
-    ensures { λ r. ⌜ Repairs t r ⌝ }
+    ensures { λ r. ⌜ Normalizes t spare r ⌝ }
 {
     let slots = t.slots;
     let top = t.root;
@@ -130,7 +130,6 @@ fn normalize_with_report(t: TileTree) -> Repairing
     let mut claimed = [false; 64];
     let mut seen = [0u64; 1024];
     let mut acts = [[0u64; 3]; 1300];
-    let spare = columns::first_empty(&heads);
     let w = normalize::normalize_node(
         &mut heads,
         &mut ids,
@@ -166,10 +165,12 @@ pub fn repair(t: TileTree) -> Repairing
     ensures { λ r. ⌜ (repaired r ≡ Rule.repair (view t)) × ((e : Refusal) → r .answer ≡ Answers.Refused e → r .tree ≡ t) ⌝ }
 {
     let slots = t.slots;
+    lone::sized(slots);
     if columns::over(slots) {
         return refused(t, Refusal::TooWide);
     }
-    normalize_with_report(t)
+    let spare = lone::first_empty(slots);
+    normalize_with_report(t, spare)
 }
 
 // Accepted, and nothing was done.

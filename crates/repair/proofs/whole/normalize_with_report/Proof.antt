@@ -20,13 +20,9 @@ shares-of-requires c κs = search needs
 minima-of-requires : tie.Need-minima-of-requires
 minima-of-requires c κs = search needs
 
-first-empty-requires : tie.Need-first-empty-requires
-first-empty-requires c κs = search needs
-
 normalize-node-requires : tie.Need-normalize-node-requires
 normalize-node-requires c κs =
-    let f = c .before .before .before .before .before .before .before in
-    let m = f .before .before in
+    let m = c .before .before .before .before .before .before .before in
     let s = m .before in
     let i = s .before in
     let h = i .before in
@@ -60,41 +56,38 @@ returns : tie.Need-returns
 returns c =
     let k = c .before .before in
     let n = k .before .before .before in
-    let f = n .before .before .before .before .before .before .before .before in
-    let m = f .before .before in
+    let m = n .before .before .before .before .before .before .before .before in
     let s = m .before in
     let i = s .before in
     let h = i .before in
     let z = h .before in
     let a = z .before .before .before in
     let t = a .args .t in
-    whole-kept t (a .pre) _ _ _ _ _ _ (h .heads-of .ensures) (i .ids-of .ensures) (s .shares-of .ensures) (m .minima-of .ensures) (z .sized .ensures) _ (n .normalize-node .result .kept) (n .normalize-node .ensures) (c .finish .result) (k .kept .given .0 .0) (k .kept .given .1) (c .finish .ensures)
+    whole-kept t (a .pre) _ _ _ _ _ _ (h .heads-of .ensures) (i .ids-of .ensures) (s .shares-of .ensures) (m .minima-of .ensures) (z .sized .ensures) _ (n .normalize-node .result .kept) (n .normalize-node .ensures) (a .args .spare) (c .finish .result) (k .kept .given .0 .0) (k .kept .given .1) (c .finish .ensures)
 
 returns-2 : tie.Need-returns-2
 returns-2 c =
     let n = c .before .before .before .before in
-    let f = n .before .before .before .before .before .before .before .before in
-    let m = f .before .before in
+    let m = n .before .before .before .before .before .before .before .before in
     let s = m .before in
     let i = s .before in
     let h = i .before in
     let z = h .before in
     let a = z .before .before .before in
     let t = a .args .t in
-    whole-gone t (a .pre) _ _ _ _ _ _ (h .heads-of .ensures) (i .ids-of .ensures) (s .shares-of .ensures) (m .minima-of .ensures) (z .sized .ensures) _ (n .normalize-node .result .kept) (n .normalize-node .ensures) (c .plant .result) (f .first-empty .result) (c .before .enum-told .given .1) (f .first-empty .ensures) (c .plant .ensures)
+    whole-gone t (a .pre) _ _ _ _ _ _ (h .heads-of .ensures) (i .ids-of .ensures) (s .shares-of .ensures) (m .minima-of .ensures) (z .sized .ensures) _ (n .normalize-node .result .kept) (n .normalize-node .ensures) (a .args .spare) (c .plant .result) (c .before .enum-told .given .1) (c .plant .ensures)
 
 returns-3 : tie.Need-returns-3
 returns-3 c =
     let n = c .before .before .before .before in
-    let f = n .before .before .before .before .before .before .before .before in
-    let m = f .before .before in
+    let m = n .before .before .before .before .before .before .before .before in
     let s = m .before in
     let i = s .before in
     let h = i .before in
     let z = h .before in
     let a = z .before .before .before in
     let t = a .args .t in
-    whole-wide t (a .pre) _ _ _ _ _ _ (h .heads-of .ensures) (i .ids-of .ensures) (s .shares-of .ensures) (m .minima-of .ensures) (z .sized .ensures) _ (n .normalize-node .result .kept) (n .normalize-node .ensures) (c .refused .result) (c .before .enum-told2 .given .1) (c .refused .ensures)
+    whole-wide t (a .pre) _ _ _ _ _ _ (h .heads-of .ensures) (i .ids-of .ensures) (s .shares-of .ensures) (m .minima-of .ensures) (z .sized .ensures) _ (n .normalize-node .result .kept) (n .normalize-node .ensures) (a .args .spare) (c .refused .result) (c .before .enum-told2 .given .1) (c .refused .ensures)
 
 pub normalize-with-report-spec : {M : Type 1} → statement M
 normalize-with-report-spec =
@@ -105,7 +98,6 @@ normalize-with-report-spec =
     ids-of-requires
     shares-of-requires
     minima-of-requires
-    first-empty-requires
     normalize-node-requires
     enum-known-kept
     finish-requires
