@@ -1,0 +1,78 @@
+-- What the calls of this crate promise: their answers as the rules have them. Definitions only.
+use mathlib.Core.Path.{_≡_}
+use mathlib.Core.Bool.{Bool, true, false}
+use mathlib.Core.List.{List, [], map}
+use mathlib.Core.Option.{Option, none, some}
+use mathlib.Core.Logic.{_⊎_}
+use Prim.Native.Nat.{ℕ, _≤_, _<_}
+use lib.ListN.{length, getD}
+use Rattle.rules.specs.Lists.{anyOf}
+use Rattle.rules.specs.Tree.{Node, empty, pane, tabs, split, nodeAt, emptySlots, isEmpty, panesOf, viewSlot, overSlot, view}
+use Rattle.rules.specs.Target.{PaneLocation, nowhere, inTile, inTabs, findPane, Parent, findParent, panesIn}
+use Rattle.rules.specs.Insert as Insert
+use Rattle.rules.specs.Operations.{Step, unchanged, Applied, finish}
+use Rattle.rules.specs.declared.model.TileId.{TileId}
+use Rattle.rules.specs.declared.model.Slot.{Slot}
+use Rattle.rules.specs.declared.model.TileTree.{TileTree}
+use Rattle.rules.specs.declared.refusal.Answer.the-variants.{Refused}
+use Rattle.rules.specs.declared.refusal.Refusal.{Refusal}
+use Rattle.ops.specs.declared.PaneLocation.{PaneLocation as Location}
+use Rattle.ops.specs.declared.PaneLocation.the-variants.{Nowhere, Tile, InTabs}
+use Rattle.ops.specs.declared.Holder.{Holder}
+use Rattle.ops.specs.declared.Holder.the-variants.{Nothing, In}
+use Rattle.ops.specs.declared.Checked.{Checked}
+use Rattle.ops.specs.declared.Checked.the-variants.{Good, Bad}
+use Rattle.ops.specs.declared.Beside.{Beside}
+use Rattle.ops.specs.declared.Applying.{Applying}
+use Rattle.ops.specs.Find.{scanPane, scanParent}
+
+abbrev pub locationOf : Location → PaneLocation
+locationOf Nowhere = nowhere
+locationOf (Tile t) = inTile t
+locationOf (InTabs g i) = inTabs g i
+
+abbrev pub holderOf : Holder → Option Parent
+holderOf Nothing = none
+holderOf (In s i) = some (record { split = s; index = i })
+
+abbrev pub checkedOf : Checked → Option Refusal
+checkedOf Good = none
+checkedOf (Bad e) = some e
+
+abbrev pub besideOf : Beside → Insert.Beside
+besideOf b = Insert.beside (b .target) (b .axis) (b .placement) (b .share)
+
+-- the lists of a slot have 16 places each
+pub record Rows (s : Slot) : Type 0 where
+  pub panes : length (s .panes .at) ≡ 16
+  pub children : length (s .children .at) ≡ 16
+  pub shares : length (s .shares .at) ≡ 16
+  pub minima : length (s .minima .at) ≡ 16
+
+-- a place in a group is one of its panes'
+abbrev pub Placed : List Node → PaneLocation → Type 0
+Placed ns nowhere = Unit {0}
+Placed ns (inTile t) = Unit {0}
+Placed ns (inTabs g i) = i < length (panesOf (nodeAt ns g))
+
+-- what a sound tree has: its lists are all there, and a scan of its slots finds what a walk from the root finds
+pub record Fit (t : TileTree) : Type 0 where
+  pub size : length (t .slots) ≡ 64
+  pub whole : anyOf overSlot (t .slots) ≡ false
+  pub panes : (p : ℕ) → findPane (t .root) (map viewSlot (t .slots)) p ≡ scanPane (map viewSlot (t .slots)) p
+  pub parents : (x : TileId) → findParent (t .root) (map viewSlot (t .slots)) x ≡ scanParent (map viewSlot (t .slots)) x
+  pub room : length (panesIn (t .root) (map viewSlot (t .slots))) ≤ 1 → 0 < length (emptySlots (map viewSlot (t .slots)))
+
+-- what an operation answered, as the rule has it
+abbrev pub applied : Applying → Applied
+applied r = record { answer = r .answer; tree = view (r .tree) }
+
+-- the answer that a step comes to; a refused or unchanged tree is the tree given, to the last place of its lists
+pub record Does (t : TileTree) (s : Step) (r : Applying) : Type 0 where
+  pub right : applied r ≡ finish (view t) s
+  pub given : (e : Refusal) → r .answer ≡ Refused e → r .tree ≡ t
+  pub kept : s ≡ unchanged → r .tree ≡ t
+
+pub record Refuses (t : TileTree) (e : Refusal) (r : Applying) : Type 0 where
+  pub answer : r .answer ≡ Refused e
+  pub tree : r .tree ≡ t
