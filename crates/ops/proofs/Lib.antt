@@ -1,2 +1,5 @@
 pub mod SlotLaws
 pub mod FindLaws
+pub mod SplitLaws
+pub mod FinishLaws
+pub mod NearLaws

@@ -14,6 +14,7 @@ use Rattle.rules.specs.Lists.{firstBy, positionFrom, position}
 use Rattle.rules.specs.Tree.{Node, empty, pane, tabs, split, tile, nodeAt, isEmpty, kidsOf, panesOf, readingFrom, sameTile, Member}
 use Rattle.rules.specs.Target.{PaneLocation, nowhere, inTile, inTabs, tileHas, tabsHave, located, locate, findPane, Parent, parentBy, seekParent, findParent, panesAlong, panesIn}
 use Rattle.rules.specs.declared.model.TileId.{TileId}
+use Rattle.lists.specs.Find.{position-found}
 use Rattle.forest.specs.Lists.{All, Distinct, never, member-all, all-member, member-right, member-left, clash}
 use Rattle.forest.specs.Settled.{slots}
 
@@ -45,10 +46,10 @@ module _ {X : Type 0} (f : ℕ → Option X) where
   first (i ∷ is) = orNext (f i) (first is)
 
   -- the first is a hit of a member, or no member hits
-  abbrev Found : List ℕ → Type 0
+  abbrev pub Found : List ℕ → Type 0
   Found xs = ((i : ℕ) × (x : X) × Member i xs × (f i ≡ some x) × (first xs ≡ some x)) ⊎ (All (λ i. f i ≡ none) xs × (first xs ≡ none))
 
-  found : (xs : List ℕ) → Found xs
+  pub found : (xs : List ℕ) → Found xs
   unfolding first
   found [] = inr (tt, refl)
   found (i ∷ is) = go (f i) refl (found is)
@@ -290,3 +291,62 @@ module _ (ns : List Node) where
       where
         full : (i : ℕ) (x : Parent) → kidHit ns t i ≡ some x → isEmpty (getD ns i empty) ≡ false
         full i x e = kids-full (getD ns i empty) (t .slot) (held-kids (getD ns i empty) t (tile i) x e)
+
+-- ---- what a scan finds stands where it says
+
+abbrev pub isSplit : Node → Bool
+isSplit empty = false
+isSplit (pane p) = false
+isSplit (tabs b a ps) = false
+isSplit (split a cs ss ms) = true
+
+-- no split; and a place in a group is one of its panes'
+abbrev pub Stands : List Node → PaneLocation → Type 0
+Stands ns nowhere = Unit {0}
+Stands ns (inTile t) = isSplit (nodeAt ns t) ≡ false
+Stands ns (inTabs g i) = (isSplit (nodeAt ns g) ≡ false) × (i < length (panesOf (nodeAt ns g)))
+
+module _ (ns : List Node) (p i : ℕ) where
+  abbrev n : Node
+  n = getD ns i empty
+
+  tile-stands : (b : Bool) (l : PaneLocation) → isSplit n ≡ false → hitTile b (tile i) ≡ some l → Stands ns l
+  tile-stands true l s e = let q : inTile (tile i) ≡ l = cc in subst (Stands ns) q s
+  tile-stands false l s e = absurd (let z : _≡_ {A = ℕ} 0 1 = cc in omega arith)
+
+  tabs-stands : (qs : List ℕ) (o : Option ℕ) → position (eqb p) qs ≡ o → panesOf n ≡ qs → (l : PaneLocation) → isSplit n ≡ false → hitTabs o (tile i) ≡ some l → Stands ns l
+  tabs-stands qs (some k) w z l s e = let q : inTabs (tile i) k ≡ l = cc in subst (Stands ns) q (s, subst (λ (xs : List ℕ). k < length xs) (sym z) (position-found (eqb p) qs k 0 w .0))
+  tabs-stands qs none w z l s e = absurd (let y : _≡_ {A = ℕ} 0 1 = cc in omega arith)
+
+  hit-stands : (m : Node) → n ≡ m → (l : PaneLocation) → hit m p (tile i) ≡ some l → Stands ns l
+  hit-stands empty q l e = absurd (let z : _≡_ {A = ℕ} 0 1 = cc in omega arith)
+  hit-stands (pane x) q l e = tile-stands (eqb p x) l (ap isSplit q) e
+  hit-stands (tabs b a qs) q l e = tabs-stands qs (position (eqb p) qs) refl (ap panesOf q) l (ap isSplit q) e
+  hit-stands (split a cs ss ms) q l e = absurd (let z : _≡_ {A = ℕ} 0 1 = cc in omega arith)
+
+pub scan-stands : (ns : List Node) (p : ℕ) → Stands ns (scanPane ns p)
+scan-stands ns p = go (found (paneHit ns p) (count 0 (length ns)))
+  where
+    is : scanPane ns p ≡ orWhere (first (paneHit ns p) (count 0 (length ns))) nowhere
+    is = scan-first ns p 0 ns (λ j. ap (λ (i : ℕ). getD ns i empty) (let q : j ≡ 0 + j = omega arith in q))
+
+    go : Found (paneHit ns p) (count 0 (length ns)) → Stands ns (scanPane ns p)
+    go (inl (i, l, m, e, w)) = subst (Stands ns) (sym (is ∙ ap (λ (o : Option PaneLocation). orWhere o nowhere) w)) (hit-stands ns p i (getD ns i empty) refl l e)
+    go (inr (a, w)) = subst (Stands ns) (sym (is ∙ ap (λ (o : Option PaneLocation). orWhere o nowhere) w)) tt
+
+-- a parent has the tile at the place that is found
+pub scan-holds : (ns : List Node) (t : TileId) (q : Parent) → scanParent ns t ≡ some q → q .index < length (kidsOf (nodeAt ns (q .split)))
+scan-holds ns t q e = go (found (kidHit ns t) (count 0 (length ns)))
+  where
+    is : scanParent ns t ≡ first (kidHit ns t) (count 0 (length ns))
+    is = parent-first ns t 0 ns (λ j. ap (λ (i : ℕ). getD ns i empty) (let z : j ≡ 0 + j = omega arith in z))
+
+    held-at : (i : ℕ) (o : Option ℕ) → position (sameTile t) (kidsOf (getD ns i empty)) ≡ o → held o (tile i) ≡ some q → q .index < length (kidsOf (nodeAt ns (q .split)))
+    held-at i (some k) w z =
+        let y : record { split = tile i; index = k } ≡ q = cc in
+        subst (λ (x : Parent). x .index < length (kidsOf (nodeAt ns (x .split)))) y (position-found (sameTile t) (kidsOf (getD ns i empty)) k t w .0)
+    held-at i none w z = absurd (let y : _≡_ {A = ℕ} 0 1 = cc in omega arith)
+
+    go : Found (kidHit ns t) (count 0 (length ns)) → q .index < length (kidsOf (nodeAt ns (q .split)))
+    go (inl (i, l, m, f, w)) = let z : l ≡ q = (let u = is in cc) in held-at i (position (sameTile t) (kidsOf (getD ns i empty))) refl (f ∙ ap some z)
+    go (inr (a, w)) = absurd (let u = is in let z : _≡_ {A = ℕ} 0 1 = cc in omega arith)

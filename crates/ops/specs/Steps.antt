@@ -5,12 +5,14 @@ use mathlib.Core.List.{List, [], map}
 use mathlib.Core.Option.{Option, none, some}
 use mathlib.Core.Logic.{_⊎_}
 use Prim.Native.Nat.{ℕ, _≤_, _<_}
-use lib.ListN.{length, getD}
+use lib.Dec.{ltb}
+use lib.ListN.{length}
 use Rattle.rules.specs.Lists.{anyOf}
-use Rattle.rules.specs.Tree.{Node, empty, pane, tabs, split, nodeAt, emptySlots, isEmpty, panesOf, viewSlot, overSlot, view}
+use Rattle.rules.specs.Tree.{Node, empty, pane, tabs, split, nodeAt, emptySlots, isEmpty, sameTile, viewSlot, overSlot, view}
 use Rattle.rules.specs.Target.{PaneLocation, nowhere, inTile, inTabs, findPane, Parent, findParent, panesIn}
 use Rattle.rules.specs.Insert as Insert
-use Rattle.rules.specs.Operations.{Step, unchanged, Applied, finish}
+use Rattle.rules.specs.Insert.{draft}
+use Rattle.rules.specs.Operations.{Change, Step, unchanged, changed, Applied, finish}
 use Rattle.rules.specs.declared.model.TileId.{TileId}
 use Rattle.rules.specs.declared.model.Slot.{Slot}
 use Rattle.rules.specs.declared.model.TileTree.{TileTree}
@@ -24,7 +26,10 @@ use Rattle.ops.specs.declared.Checked.{Checked}
 use Rattle.ops.specs.declared.Checked.the-variants.{Good, Bad}
 use Rattle.ops.specs.declared.Beside.{Beside}
 use Rattle.ops.specs.declared.Applying.{Applying}
-use Rattle.ops.specs.Find.{scanPane, scanParent}
+use Rattle.forest.specs.Lists.{All}
+use Rattle.repair.specs.Pack.{firstOf}
+use Rattle.ops.specs.Find.{scanPane, scanParent, isSplit, Stands}
+use Rattle.ops.specs.Near.{Alike}
 
 abbrev pub locationOf : Location → PaneLocation
 locationOf Nowhere = nowhere
@@ -49,12 +54,6 @@ pub record Rows (s : Slot) : Type 0 where
   pub shares : length (s .shares .at) ≡ 16
   pub minima : length (s .minima .at) ≡ 16
 
--- a place in a group is one of its panes'
-abbrev pub Placed : List Node → PaneLocation → Type 0
-Placed ns nowhere = Unit {0}
-Placed ns (inTile t) = Unit {0}
-Placed ns (inTabs g i) = i < length (panesOf (nodeAt ns g))
-
 -- what a sound tree has: its lists are all there, and a scan of its slots finds what a walk from the root finds
 pub record Fit (t : TileTree) : Type 0 where
   pub size : length (t .slots) ≡ 64
@@ -76,3 +75,37 @@ pub record Does (t : TileTree) (s : Step) (r : Applying) : Type 0 where
 pub record Refuses (t : TileTree) (e : Refusal) (r : Applying) : Type 0 where
   pub answer : r .answer ≡ Refused e
   pub tree : r .tree ≡ t
+
+-- these slots under this root, repaired with the next revision: the answer to every change that made them, whose free slots begin with the spare one
+abbrev pub Changes : TileTree → TileId → List Node → ℕ → Applying → Type 0
+Changes t root ns spare r =
+    (c : Change) → c .made ≡ draft root ns → ltb (length (emptySlots (map viewSlot (t .slots)))) (c .needed) ≡ false → All (λ i. i < 64) (c .free) → spare ≡ firstOf (c .free) → Does t (changed c) r
+
+-- ---- a tile put beside another
+
+-- the slots with a pane taken out read as the tree's do, and what is put in is no split
+pub record Fits (t : TileTree) (out : List Slot) (new : Slot) : Type 0 where
+  pub fit : Fit t
+  pub whole : anyOf overSlot out ≡ false
+  pub narrow : overSlot new ≡ false
+  pub alike : Alike (map viewSlot (t .slots)) (map viewSlot out)
+  pub leaf : isSplit (viewSlot new) ≡ false
+
+-- the target is there, and this is what holds it
+pub record Nears (t : TileTree) (out : List Slot) (new : Slot) (b : Beside) (p : Option Parent) : Type 0 where
+  pub fits : Fits t out new
+  pub there : isEmpty (nodeAt (map viewSlot out) (b .target)) ≡ false
+  pub holder : p ≡ scanParent (map viewSlot (t .slots)) (b .target)
+
+abbrev pub Rooted : TileTree → List Slot → Slot → Beside → Type 0
+Rooted t out new b = (p : Option Parent) × Nears t out new b p × (sameTile (b .target) (t .root) ≡ true) × (Insert.sameAxisParent (b .axis) p (map viewSlot (t .slots)) ≡ false)
+
+abbrev pub parentAt : TileId → ℕ → Parent
+parentAt s i = record { split = s; index = i }
+
+abbrev pub Within : TileTree → List Slot → Slot → Beside → TileId → ℕ → Type 0
+Within t out new b s i = Nears t out new b (some (parentAt s i)) × (Insert.hasAxis (b .axis) (nodeAt (map viewSlot (t .slots)) s) ≡ true)
+
+abbrev pub Under : TileTree → List Slot → Slot → Beside → TileId → ℕ → Type 0
+Under t out new b s i =
+    Nears t out new b (some (parentAt s i)) × (sameTile (b .target) (t .root) ≡ false) × (Insert.hasAxis (b .axis) (nodeAt (map viewSlot (t .slots)) s) ≡ false)

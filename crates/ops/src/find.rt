@@ -14,11 +14,11 @@ ghost use mathlib.Core.List.{map};
 ghost use Prim.Native.Nat.{_≤_};
 ghost use lib.Dec.{eqb};
 ghost use Rattle.rules.specs.Lists.{anyOf, position};
-ghost use Rattle.rules.specs.Tree.{ids as idsIn, tile, viewSlot, overSlot, kidsOf, sameTile};
+ghost use Rattle.rules.specs.Tree.{ids as idsIn, viewSlot, overSlot, kidsOf, sameTile};
 ghost use Rattle.rules.specs.Target.{nowhere, located, isSomewhere};
 ghost use Rattle.rules.specs.Target as Rule;
 ghost use Rattle.lists.specs.Find.{placeOf};
-ghost use Rattle.ops.specs.Find.{scanPane, scanParent, hitTile, hitTabs, orWhere, held};
+ghost use Rattle.ops.specs.Find.{scanPane, scanParent};
 ghost use Rattle.ops.specs.Steps.{locationOf, holderOf};
 
 pub fn is_somewhere(l: PaneLocation) -> bool

@@ -9,7 +9,10 @@ use rules::refusal::Answer;
 use rules::refusal::Refusal;
 
 pub mod find;
+pub mod finish;
+pub mod near;
 pub mod slots;
+pub mod splits;
 pub mod take;
 pub mod target;
 

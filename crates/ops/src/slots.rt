@@ -1,5 +1,4 @@
 // Slots read, written, taken and made: the Rust's get_node, set_node and push_node.
-use crate::Beside;
 use crate::Spares;
 use lists::ids;
 use lists::reals;
@@ -7,7 +6,6 @@ use lists::tiles;
 use repair::columns;
 use repair::lone;
 use rules::model::Kind;
-use rules::model::Placement;
 use rules::model::Reals;
 use rules::model::Slot;
 use rules::model::TabBarPlacement;
@@ -17,14 +15,13 @@ ghost use mathlib.Core.Path.{_≡_};
 ghost use mathlib.Core.Bool.{false};
 ghost use mathlib.Core.List.{[], _∷_, map};
 ghost use Prim.Native.Nat.{_≤_};
-ghost use lib.ListN.{length, getD, drop};
+ghost use lib.ListN.{getD, drop};
 ghost use Rattle.rules.specs.Lists.{anyOf};
 ghost use Rattle.rules.specs.Tree.{Node, viewSlot, overSlot, nodeAt, setNode, emptyFrom, emptySlots};
-ghost use Rattle.rules.specs.Insert.{newSplit};
 ghost use Rattle.rules.specs.declared.model.TabBarPlacement.the-variants as Bars;
 ghost use Rattle.lists.specs.Exact.{IsTiles, IsReals};
 ghost use Rattle.repair.specs.Pack.{firstOf};
-ghost use Rattle.ops.specs.Steps.{besideOf, Rows};
+ghost use Rattle.ops.specs.Steps.{Rows};
 
 // get_node, and the one place that resolves a tile id: one past the slots reads as empty.
 pub fn get_node(slots: [Slot; 64], id: TileId) -> Slot
@@ -124,7 +121,7 @@ pub fn top_group(pane: u64) -> Slot
 }
 
 // vec![a, b], of tiles
-fn two_tiles(a: TileId, b: TileId) -> Tiles
+pub fn two_tiles(a: TileId, b: TileId) -> Tiles
     ensures { λ r. ⌜ IsTiles r (a ∷ b ∷ []) ⌝ }
 {
     let none = tiles::empty();
@@ -133,7 +130,7 @@ fn two_tiles(a: TileId, b: TileId) -> Tiles
 }
 
 // vec![a, b], of shares
-fn two_reals(a: f64, b: f64) -> Reals
+pub fn two_reals(a: f64, b: f64) -> Reals
     ensures { λ r. ⌜ IsReals r (a ∷ b ∷ []) ⌝ }
 {
     let none = reals::empty();

@@ -13,7 +13,8 @@ ghost use lib.ListN.{length};
 ghost use Rattle.rules.specs.Lists.{anyOf};
 ghost use Rattle.rules.specs.Tree.{viewSlot, overSlot, panesOf};
 ghost use Rattle.rules.specs.Insert.{activeAfter, removedFrom, removePane};
-ghost use Rattle.ops.specs.Steps.{locationOf, Placed};
+ghost use Rattle.ops.specs.Steps.{locationOf};
+ghost use Rattle.ops.specs.Find.{Stands};
 
 // The active index, once the pane at index went and n are left.
 fn active_after(index: usize, active: usize, n: usize) -> usize
@@ -57,7 +58,7 @@ fn removed_from(s: Slot, index: usize) -> Slot
 
 // remove_pane, where the pane stands: a pane tile's slot is cleared, and its place in a split stays until repair.
 pub fn remove_pane(slots: [Slot; 64], l: PaneLocation) -> [Slot; 64]
-    requires { ⌜ (anyOf overSlot slots ≡ false) × Placed (map viewSlot slots) (locationOf l) ⌝ }
+    requires { ⌜ (anyOf overSlot slots ≡ false) × Stands (map viewSlot slots) (locationOf l) ⌝ }
     ensures { λ r. ⌜ (map viewSlot r ≡ removePane (locationOf l) (map viewSlot slots)) × (anyOf overSlot r ≡ false) ⌝ }
 {
     match l {

@@ -9,7 +9,8 @@ use Rattle.rules.specs.Target.{PaneLocation}
 use Rattle.rules.specs.Insert.{removePane, removedFrom}
 use Prim.Native.Nat.{_<_}
 use Rattle.rules.specs.declared.model.Kind.the-variants.{Empty, Pane, Tabs, Split}
-use Rattle.ops.specs.Steps.{locationOf, Placed}
+use Rattle.ops.specs.Steps.{locationOf}
+use Rattle.ops.specs.Find.{Stands}
 use Rattle.ops.proofs.SlotLaws.{bare-view, bare-whole}
 use mathlib.Core.Path.{_≡_, refl, sym, ap, subst, _∙_}
 use borrow.Author.Needs.{needs}
@@ -39,7 +40,7 @@ removed-from-requires c κs =
     let l = c .before .before in
     let h = l .before .before in
     let ns = map viewSlot (h .args .slots) in
-    (subst (λ (n : Node). l .l2 .given .0 .1 .0 < length (panesOf n)) (sym (c .get-node .ensures .0)) (subst (λ (x : Location). Placed ns (locationOf x)) (l .l2 .given .1) (h .pre .1)), c .get-node .ensures .1)
+    (subst (λ (n : Node). l .l2 .given .0 .1 .0 < length (panesOf n)) (sym (c .get-node .ensures .0)) (subst (λ (x : Location). Stands ns (locationOf x)) (l .l2 .given .1) (h .pre .1) .1), c .get-node .ensures .1)
 
 set-node-requires-2 : tie.Need-set-node-requires-2
 set-node-requires-2 c κs = search needs
