@@ -3,3 +3,4 @@ pub mod FindLaws
 pub mod SplitLaws
 pub mod FinishLaws
 pub mod NearLaws
+pub mod GroupLaws

@@ -5,19 +5,22 @@ use mathlib.Core.List.{List, [], map}
 use mathlib.Core.Option.{Option, none, some}
 use mathlib.Core.Logic.{_⊎_}
 use Prim.Native.Nat.{ℕ, _≤_, _<_}
-use lib.Dec.{ltb}
-use lib.ListN.{length}
+use lib.Dec.{ltb, leb}
+use lib.ListN.{length, getElem?}
 use Rattle.rules.specs.Lists.{anyOf}
-use Rattle.rules.specs.Tree.{Node, empty, pane, tabs, split, nodeAt, emptySlots, isEmpty, sameTile, viewSlot, overSlot, view}
+use Rattle.rules.specs.Tree.{Node, empty, pane, tabs, split, Arena, nodeAt, emptySlots, isEmpty, sameTile, viewSlot, overSlot, view}
 use Rattle.rules.specs.Target.{PaneLocation, nowhere, inTile, inTabs, findPane, Parent, findParent, panesIn}
 use Rattle.rules.specs.Insert as Insert
 use Rattle.rules.specs.Insert.{draft}
-use Rattle.rules.specs.Operations.{Change, Step, unchanged, changed, Applied, finish}
+use Rattle.rules.specs.Operations.{Change, Step, refuse, unchanged, changed, keptActive, reordered, reorderFrom, Applied, finish}
 use Rattle.rules.specs.declared.model.TileId.{TileId}
+use Rattle.rules.specs.declared.model.Kind.{Kind}
+use Rattle.rules.specs.declared.model.Kind.the-variants.{Empty, Pane, Tabs, Split}
 use Rattle.rules.specs.declared.model.Slot.{Slot}
 use Rattle.rules.specs.declared.model.TileTree.{TileTree}
 use Rattle.rules.specs.declared.refusal.Answer.the-variants.{Refused}
 use Rattle.rules.specs.declared.refusal.Refusal.{Refusal}
+use Rattle.rules.specs.declared.refusal.Refusal.the-variants.{InvalidTileId}
 use Rattle.ops.specs.declared.PaneLocation.{PaneLocation as Location}
 use Rattle.ops.specs.declared.PaneLocation.the-variants.{Nowhere, Tile, InTabs}
 use Rattle.ops.specs.declared.Holder.{Holder}
@@ -109,3 +112,41 @@ Within t out new b s i = Nears t out new b (some (parentAt s i)) × (Insert.hasA
 abbrev pub Under : TileTree → List Slot → Slot → Beside → TileId → ℕ → Type 0
 Under t out new b s i =
     Nears t out new b (some (parentAt s i)) × (sameTile (b .target) (t .root) ≡ false) × (Insert.hasAxis (b .axis) (nodeAt (map viewSlot (t .slots)) s) ≡ false)
+
+-- ---- a pane taken out
+
+-- the slots with a pane taken out, whose lists are all there
+pub record Taken (t : TileTree) (out : List Slot) : Type 0 where
+  pub fit : Fit t
+  pub whole : anyOf overSlot out ≡ false
+  pub alike : Alike (map viewSlot (t .slots)) (map viewSlot out)
+
+abbrev pub isGroup : Node → Type 0
+isGroup empty = ⊥
+isGroup (pane p) = ⊥
+isGroup (tabs b a ps) = Unit {0}
+isGroup (split a cs ss ms) = ⊥
+
+-- no room for one more pane
+abbrev pub fullBy : Kind → Slot → Bool
+fullBy Empty s = false
+fullBy (Pane p) s = false
+fullBy (Tabs b) s = leb 16 (s .panes .len)
+fullBy (Split a) s = false
+
+abbrev pub isFull : Slot → Bool
+isFull s = fullBy (s .kind) s
+
+-- a pane of a group in another place, and the active pane the same
+abbrev pub reorderedIn : ℕ → ℕ → ℕ → Node → Node
+reorderedIn p from to empty = empty
+reorderedIn p from to (pane q) = pane q
+reorderedIn p from to (tabs b a ps) = tabs b (keptActive (getElem? ps a) a (reordered ps p from to)) (reordered ps p from to)
+reorderedIn p from to (split x cs ss ms) = split x cs ss ms
+
+-- reorder, once the pane's place is known
+abbrev pub reorderAs : Option ℕ → Node → Arena → TileId → ℕ → ℕ → Step
+reorderAs o empty a g p i = refuse InvalidTileId
+reorderAs o (pane q) a g p i = refuse InvalidTileId
+reorderAs o (tabs b n ps) a g p i = reorderFrom o a g b n ps p i
+reorderAs o (split x cs ss ms) a g p i = refuse InvalidTileId

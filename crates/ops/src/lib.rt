@@ -10,7 +10,9 @@ use rules::refusal::Refusal;
 
 pub mod find;
 pub mod finish;
+pub mod groups;
 pub mod near;
+pub mod operations;
 pub mod slots;
 pub mod splits;
 pub mod take;
