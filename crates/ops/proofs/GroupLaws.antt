@@ -132,3 +132,10 @@ kept-past len active at ps h = sym (ap (λ (o : Option ℕ). keptActive o active
 pub kept-here : (len active : ℕ) (at ps : List ℕ) → active < len → len ≤ length at → activeOf (getElem? (take len at) active) ps ≡ keptActive (getElem? (take len at) active) active ps
 kept-here len active at ps h g =
     let e = elem-at (take len at) active (omega (arith, length-take-le len at g)) in ap (λ (o : Option ℕ). activeOf o ps) e ∙ sym (ap (λ (o : Option ℕ). keptActive o active ps) e)
+
+-- a group's panes are those of its slot
+pub group-panes : (s : Slot) → isGroup (viewSlot s) → panesOf (viewSlot s) ≡ ids (s .panes)
+group-panes s g = group-kind s g (λ b e. ap panesOf (bare-view s (Tabs b) e))
+
+pub is-group : (s : Slot) (b : TabBarPlacement) → s .kind ≡ Tabs b → isGroup (viewSlot s)
+is-group s b e = subst (λ (k : Kind). isGroup (nodeOf k s)) (sym e) tt

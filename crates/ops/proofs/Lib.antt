@@ -4,3 +4,5 @@ pub mod SplitLaws
 pub mod FinishLaws
 pub mod NearLaws
 pub mod GroupLaws
+pub mod OpLaws
+pub mod WholeLaws

@@ -17,6 +17,7 @@ pub mod slots;
 pub mod splits;
 pub mod take;
 pub mod target;
+pub mod whole;
 
 // Where a pane stands: the Rust's Option<PaneLocation>.
 pub enum PaneLocation {

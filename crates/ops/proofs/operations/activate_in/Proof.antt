@@ -1,46 +1,51 @@
+-- `ops::operations::activate_in` goes by the group's active index. Assumes nothing.
+use mathlib.Core.Path.{_≡_, refl, sym, ap, subst, _∙_}
+use mathlib.Core.List.{List, [], _∷_, map}
+use lib.ListN.{length, length-map}
+use Rattle.rules.specs.Tree.{Node, view, viewSlot, nodeAt, setNode}
+use Rattle.rules.specs.Operations as Rule
+use Rattle.ops.proofs.OpLaws.{activate-same, activate-other}
 use borrow.Author.Needs.{needs}
 use Rattle.ops.proofs.operations.activate_in.Statement.{statement}
 use Rattle.ops.proofs.operations.activate_in.Tie as tie
-use Rattle.ops.proofs.operations.activate_in.Reads as reads
-use Rattle.ops.proofs.operations.activate_in.Lts as lts
-use Rattle.ops.proofs.finish.unchanged.Reads as unchanged-reads
-use Rattle.ops.proofs.groups.active_is.Reads as active-is-reads
-use Rattle.ops.proofs.groups.set_active.Reads as set-active-reads
-use Rattle.ops.proofs.operations.change_only.Reads as change-only-reads
-use Rattle.ops.proofs.slots.get_node.Reads as get-node-reads
-use Rattle.ops.proofs.slots.set_node.Reads as set-node-reads
 
--- src/operations.rt:58:9
 get-node-requires : tie.Need-get-node-requires
 get-node-requires c κs = search needs
 
--- src/operations.rt:59:8
 active-is-requires : tie.Need-active-is-requires
 active-is-requires c κs = search needs
 
--- src/operations.rt:60:9
 unchanged-requires : tie.Need-unchanged-requires
 unchanged-requires c κs = search needs
 
--- src/operations.rt:60:9
 returns : tie.Need-returns
-returns c = ?
+returns c =
+    let a = c .before .before in
+    let g = a .before in
+    let h = g .before .before in
+    let x = h .args in
+    activate-same (x .t) (length-map (x .t .slots) viewSlot ∙ h .pre .size) (x .group) (x .index) (c .unchanged .result) (ap (Rule.activeIs (x .index)) (sym (g .get-node .ensures .0)) ∙ sym (a .active-is .ensures) ∙ c .before .if1 .taken) (c .unchanged .ensures)
 
--- src/operations.rt:62:9
 set-active-requires : tie.Need-set-active-requires
 set-active-requires c κs = search needs
 
--- src/operations.rt:63:9
 set-node-requires : tie.Need-set-node-requires
 set-node-requires c κs = search needs
 
--- src/operations.rt:64:5
 change-only-requires : tie.Need-change-only-requires
 change-only-requires c κs = search needs
 
--- src/operations.rt:53:1
 returns-2 : tie.Need-returns-2
-returns-2 c = ?
+returns-2 c =
+    let s = c .before .before in
+    let i = s .before in
+    let a = i .before in
+    let g = a .before in
+    let h = g .before .before in
+    let x = h .args in
+    let ns = map viewSlot (x .t .slots) in
+    activate-other (x .t) (length-map (x .t .slots) viewSlot ∙ h .pre .size) (x .group) (x .index) (c .before .set-node .result) (c .change-only .result) (ap (Rule.activeIs (x .index)) (sym (g .get-node .ensures .0)) ∙ sym (a .active-is .ensures) ∙ i .if1 .left)
+    (c .before .set-node .ensures .0 ∙ ap (λ (n : Node). setNode (x .group) n ns) (s .set-active .ensures .0 ∙ ap (Rule.setActive (x .index)) (g .get-node .ensures .0))) (c .change-only .ensures)
 
 pub activate-in-spec : {M : Type 1} → statement M
 activate-in-spec =

@@ -1,51 +1,61 @@
+-- `ops::operations::close_pane` refuses an absent pane, and takes out any other. Assumes nothing.
+use mathlib.Core.Path.{_≡_, refl, sym, ap, subst, _∙_}
+use Rattle.rules.specs.Tree.{Node, view, viewSlot, nodeAt, setNode}
+use Rattle.rules.specs.Operations as Rule
+use Rattle.rules.specs.Target.{PaneLocation}
+use Rattle.ops.specs.Steps.{locationOf}
+use borrow.Author.Tests.{not-true, not-false}
+use Rattle.rules.specs.declared.refusal.Refusal.the-variants.{InvalidPaneId}
+use Rattle.ops.proofs.FinishLaws.{does-refused}
+use Rattle.ops.proofs.OpLaws.{located-nowhere, stands, close-goes}
 use borrow.Author.Needs.{needs}
 use Rattle.ops.proofs.operations.close_pane.Statement.{statement}
 use Rattle.ops.proofs.operations.close_pane.Tie as tie
-use Rattle.ops.proofs.operations.close_pane.Reads as reads
-use Rattle.ops.proofs.operations.close_pane.Lts as lts
-use Rattle.ops.proofs.find.find_pane.Reads as find-pane-reads
-use Rattle.ops.proofs.find.is_somewhere.Reads as is-somewhere-reads
-use Rattle.ops.proofs.finish.change.Reads as change-reads
-use Rattle.ops.proofs.finish.refused.Reads as refused-reads
-use Rattle.ops.proofs.take.remove_pane.Reads as remove-pane-reads
-use Rattle.repair.proofs.lone.first_empty.Reads as first-empty-reads
-use Rattle.repair.proofs.lone.sized.Reads as sized-reads
 
--- src/operations.rt:88:5
 sized-requires : tie.Need-sized-requires
 sized-requires c κs = search needs
 
--- src/operations.rt:89:9
 find-pane-requires : tie.Need-find-pane-requires
 find-pane-requires c κs = search needs
 
--- src/operations.rt:90:9
 is-somewhere-requires : tie.Need-is-somewhere-requires
 is-somewhere-requires c κs = search needs
 
--- src/operations.rt:91:9
 refused-requires : tie.Need-refused-requires
 refused-requires c κs = search needs
 
--- src/operations.rt:91:9
 returns : tie.Need-returns
-returns c = ?
+returns c =
+    let s = c .before .before in
+    let f = s .before in
+    let h = f .before .before .before .before in
+    let x = h .args in
+    does-refused (x .t) (Rule.closePane (view (x .t)) (x .pane)) InvalidPaneId (c .refused .result) (c .refused .ensures)
+    (located-nowhere (x .t) (h .pre) (x .pane) (locationOf (f .find-pane .result)) (f .find-pane .ensures) (λ (l : PaneLocation). Rule.closeAt l (view (x .t))) (sym (s .is-somewhere .ensures) ∙ not-true (s .is-somewhere .result) (c .before .if1 .taken)))
 
--- src/operations.rt:93:9
 remove-pane-requires : tie.Need-remove-pane-requires
-remove-pane-requires c κs = ?
+remove-pane-requires c κs =
+    let f = c .before .before in
+    let h = f .before .before .before .before in
+    let x = h .args in
+    (h .pre .whole, stands (x .t) (h .pre) (x .pane) (locationOf (f .find-pane .result)) (f .find-pane .ensures))
 
--- src/operations.rt:94:9
 first-empty-requires : tie.Need-first-empty-requires
 first-empty-requires c κs = search needs
 
--- src/operations.rt:95:5
 change-requires : tie.Need-change-requires
 change-requires c κs = search needs
 
--- src/operations.rt:82:1
 returns-2 : tie.Need-returns-2
-returns-2 c = ?
+returns-2 c =
+    let e = c .before in
+    let o = e .before in
+    let i = o .before in
+    let s = i .before in
+    let f = s .before in
+    let h = f .before .before .before .before in
+    let x = h .args in
+    close-goes (x .t) (h .pre) (x .pane) (locationOf (f .find-pane .result)) (f .find-pane .ensures) (o .remove-pane .result) (e .first-empty .result) (c .change .result) (sym (s .is-somewhere .ensures) ∙ not-false (s .is-somewhere .result) (i .if1 .left)) (o .remove-pane .ensures .0) (e .first-empty .ensures) (c .change .ensures)
 
 pub close-pane-spec : {M : Type 1} → statement M
 close-pane-spec =

@@ -1,61 +1,91 @@
+-- `ops::operations::move_pane` goes by the pane, then by the target. Assumes nothing.
+use mathlib.Core.Path.{_≡_, refl, sym, ap, subst, _∙_}
+use mathlib.Core.List.{List, [], _∷_, map}
+use Rattle.rules.specs.Tree.{Node, view, viewSlot, nodeAt, setNode}
+use Rattle.rules.specs.Operations as Rule
+use Rattle.rules.specs.Target.{PaneLocation}
+use Rattle.ops.specs.Steps.{locationOf, checkedOf}
+use borrow.Author.Tests.{not-true, not-false}
+use Rattle.rules.specs.declared.refusal.Refusal.the-variants.{InvalidPaneId}
+use Rattle.ops.proofs.FinishLaws.{does-refused, does-like}
+use Rattle.ops.proofs.OpLaws.{located-nowhere, stands, taken-out, move-refused, move-goes}
 use borrow.Author.Needs.{needs}
 use Rattle.ops.proofs.operations.move_pane.Statement.{statement}
 use Rattle.ops.proofs.operations.move_pane.Tie as tie
-use Rattle.ops.proofs.operations.move_pane.Reads as reads
-use Rattle.ops.proofs.operations.move_pane.Lts as lts
-use Rattle.ops.proofs.find.find_pane.Reads as find-pane-reads
-use Rattle.ops.proofs.find.is_somewhere.Reads as is-somewhere-reads
-use Rattle.ops.proofs.finish.refused.Reads as refused-reads
-use Rattle.ops.proofs.operations.insert_tile_at_target.Reads as insert-tile-at-target-reads
-use Rattle.ops.proofs.take.remove_pane.Reads as remove-pane-reads
-use Rattle.ops.proofs.target.validate_target.Reads as validate-target-reads
 
--- src/operations.rt:211:9
 find-pane-requires : tie.Need-find-pane-requires
 find-pane-requires c κs = search needs
 
--- src/operations.rt:212:9
 is-somewhere-requires : tie.Need-is-somewhere-requires
 is-somewhere-requires c κs = search needs
 
--- src/operations.rt:213:9
 refused-requires : tie.Need-refused-requires
 refused-requires c κs = search needs
 
--- src/operations.rt:213:9
 returns : tie.Need-returns
-returns c = ?
+returns c =
+    let s = c .before .before in
+    let f = s .before in
+    let h = f .before .before in
+    let x = h .args in
+    let l = locationOf (f .find-pane .result) in
+    does-refused (x .t) (Rule.movePane (view (x .t)) (x .pane) (x .to)) InvalidPaneId (c .refused .result) (c .refused .ensures)
+    (located-nowhere (x .t) (h .pre) (x .pane) l (f .find-pane .ensures) (λ (m : PaneLocation). Rule.moveAt m (view (x .t)) (x .pane) (x .to)) (sym (s .is-somewhere .ensures) ∙ not-true (s .is-somewhere .result) (c .before .if1 .taken)))
 
--- src/operations.rt:215:9
 validate-target-requires : tie.Need-validate-target-requires
 validate-target-requires c κs = search needs
 
--- src/operations.rt:216:25
 enum-known-checked : tie.Need-enum-known-checked
 enum-known-checked c = search needs
 
--- src/operations.rt:217:9
 refused-requires-2 : tie.Need-refused-requires-2
 refused-requires-2 c κs = search needs
 
--- src/operations.rt:217:9
 returns-2 : tie.Need-returns-2
-returns-2 c = ?
+returns-2 c =
+    let k = c .before .before in
+    let v = k .before .before in
+    let i = v .before in
+    let s = i .before in
+    let f = s .before in
+    let h = f .before .before in
+    let x = h .args in
+    let l = locationOf (f .find-pane .result) in
+    does-refused (x .t) (Rule.movePane (view (x .t)) (x .pane) (x .to)) _ (c .refused2 .result) (c .refused2 .ensures)
+    (move-refused (x .t) (h .pre) (x .pane) l (f .find-pane .ensures) (x .to) _ (sym (s .is-somewhere .ensures) ∙ not-false (s .is-somewhere .result) (i .if1 .left)) (sym (ap checkedOf (k .checked .given .1)) ∙ v .validate-target .ensures))
 
 enum-told : tie.Need-enum-told
 enum-told c = search needs
 
--- src/operations.rt:219:9
 remove-pane-requires : tie.Need-remove-pane-requires
-remove-pane-requires c κs = ?
+remove-pane-requires c κs =
+    let f = c .before .before .before .before .before in
+    let h = f .before .before in
+    let x = h .args in
+    let l = locationOf (f .find-pane .result) in
+    (h .pre .whole, stands (x .t) (h .pre) (x .pane) l (f .find-pane .ensures))
 
--- src/operations.rt:220:5
 insert-tile-at-target-requires : tie.Need-insert-tile-at-target-requires
-insert-tile-at-target-requires c κs = ?
+insert-tile-at-target-requires c κs =
+    let f = c .before .before .before .before .before .before in
+    let h = f .before .before in
+    let x = h .args in
+    let l = locationOf (f .find-pane .result) in
+    taken-out (x .t) (h .pre) (x .pane) l (f .find-pane .ensures) (c .remove-pane .result) (c .remove-pane .ensures .1) (c .remove-pane .ensures .0)
 
--- src/operations.rt:206:1
 returns-3 : tie.Need-returns-3
-returns-3 c = ?
+returns-3 c =
+    let o = c .before in
+    let k = o .before in
+    let v = k .before .before in
+    let i = v .before in
+    let s = i .before in
+    let f = s .before in
+    let h = f .before .before in
+    let x = h .args in
+    let l = locationOf (f .find-pane .result) in
+    does-like (x .t) (Rule.movePane (view (x .t)) (x .pane) (x .to)) _ (c .insert-tile-at-target .result) (c .insert-tile-at-target .ensures)
+    (move-goes (x .t) (h .pre) (x .pane) l (f .find-pane .ensures) (x .to) (o .remove-pane .result) (sym (s .is-somewhere .ensures) ∙ not-false (s .is-somewhere .result) (i .if1 .left)) (sym (ap checkedOf (k .enum-told .given .1)) ∙ v .validate-target .ensures) (o .remove-pane .ensures .0))
 
 pub move-pane-spec : {M : Type 1} → statement M
 move-pane-spec =

@@ -1,51 +1,57 @@
+-- `ops::operations::tab_into` refuses a full group, or puts the pane in. Assumes nothing.
+use mathlib.Core.Path.{_≡_, refl, sym, ap, subst, _∙_}
+use mathlib.Core.List.{List, [], _∷_, map}
+use Rattle.rules.specs.Tree.{Node, view, viewSlot, nodeAt, setNode}
+use Rattle.rules.specs.Operations as Rule
+use Rattle.ops.proofs.FinishLaws.{does-like}
+use Rattle.ops.proofs.GroupLaws.{tabbed-wide}
+use Rattle.ops.proofs.OpLaws.{tab-full}
 use borrow.Author.Needs.{needs}
 use Rattle.ops.proofs.operations.tab_into.Statement.{statement}
 use Rattle.ops.proofs.operations.tab_into.Tie as tie
-use Rattle.ops.proofs.operations.tab_into.Reads as reads
-use Rattle.ops.proofs.operations.tab_into.Lts as lts
-use Rattle.ops.proofs.finish.refused.Reads as refused-reads
-use Rattle.ops.proofs.groups.is_full.Reads as is-full-reads
-use Rattle.ops.proofs.groups.tabbed_in.Reads as tabbed-in-reads
-use Rattle.ops.proofs.operations.change_only.Reads as change-only-reads
-use Rattle.ops.proofs.slots.get_node.Reads as get-node-reads
-use Rattle.ops.proofs.slots.rows.Reads as rows-reads
-use Rattle.ops.proofs.slots.set_node.Reads as set-node-reads
 
--- src/operations.rt:159:9
 get-node-requires : tie.Need-get-node-requires
 get-node-requires c κs = search needs
 
--- src/operations.rt:160:5
 rows-requires : tie.Need-rows-requires
 rows-requires c κs = search needs
 
--- src/operations.rt:161:8
 is-full-requires : tie.Need-is-full-requires
 is-full-requires c κs = search needs
 
--- src/operations.rt:162:9
 refused-requires : tie.Need-refused-requires
 refused-requires c κs = search needs
 
--- src/operations.rt:162:9
 returns : tie.Need-returns
-returns c = ?
+returns c =
+    let f = c .before .before in
+    let w = f .before in
+    let g = w .before in
+    let h = g .before in
+    let x = h .args in
+    tab-full (x .t) (x .out) (x .pane) (x .group) (x .index) (c .refused .result) (h .pre .fit) (viewSlot (g .get-node .result)) (g .get-node .ensures .0) (tabbed-wide (g .get-node .result) (x .pane) (x .index) (w .rows .ensures) (sym (f .is-full .ensures) ∙ c .before .if1 .taken)) (c .refused .ensures)
 
--- src/operations.rt:164:9
 tabbed-in-requires : tie.Need-tabbed-in-requires
-tabbed-in-requires c κs = ?
+tabbed-in-requires c κs =
+    let f = c .before in
+    let w = f .before in
+    let g = w .before in
+    (g .get-node .ensures .1, sym (f .is-full .ensures) ∙ c .if1 .left, w .rows .ensures)
 
--- src/operations.rt:165:9
 set-node-requires : tie.Need-set-node-requires
 set-node-requires c κs = search needs
 
--- src/operations.rt:166:5
 change-only-requires : tie.Need-change-only-requires
 change-only-requires c κs = search needs
 
--- src/operations.rt:155:1
 returns-2 : tie.Need-returns-2
-returns-2 c = ?
+returns-2 c =
+    let n = c .before .before in
+    let g = n .before .before .before .before in
+    let x = g .before .args in
+    let ms = map viewSlot (x .out) in
+    does-like (x .t) (Rule.changeOnly (view (x .t)) (setNode (x .group) (Rule.tabbedIn (x .pane) (x .index) (nodeAt ms (x .group))) ms)) _ (c .change-only .result) (c .change-only .ensures)
+    (ap (Rule.changeOnly (view (x .t))) (sym (c .before .set-node .ensures .0 ∙ ap (λ (m : Node). setNode (x .group) m ms) (n .tabbed-in .ensures .0 ∙ ap (Rule.tabbedIn (x .pane) (x .index)) (g .get-node .ensures .0)))))
 
 pub tab-into-spec : {M : Type 1} → statement M
 tab-into-spec =
