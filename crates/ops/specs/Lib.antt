@@ -3,3 +3,4 @@ pub mod Find
 pub mod Trees
 pub mod Near
 pub mod Steps
+pub mod Theorems
