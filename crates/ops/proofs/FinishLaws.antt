@@ -31,7 +31,7 @@ use Rattle.repair.specs.Whole.{repaired, Normalizes}
 use Rattle.repair.specs.declared.Repairing.{Repairing}
 use Rattle.ops.specs.Steps.{applied, Does, Refuses, Changes}
 use Rattle.ops.specs.declared.Applying.{Applying}
-use Rattle.ops.proofs.SlotLaws.{or-left, or-right}
+use Rattle.nodes.proofs.SlotLaws.{or-left, or-right}
 
 -- ---- slots whose lists are all there are not too wide
 

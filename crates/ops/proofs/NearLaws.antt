@@ -28,12 +28,13 @@ use Rattle.rules.specs.declared.model.TileTree.{TileTree}
 use Rattle.rules.specs.declared.refusal.Refusal.the-variants.{ArenaFull, TooWide, InvalidTileId, InvalidOperation}
 use Rattle.lists.specs.Places.{length-insertAt}
 use Rattle.forest.specs.Lists.{never}
-use Rattle.ops.specs.Find.{scanParent, scan-holds}
+use Rattle.nodes.specs.Find.{scanParent, scan-holds}
 use Rattle.ops.specs.Near.{alike-kids, taken-empty, like-first, setFirst, setBoth, near-absent, near-loose, near-in, near-root, near-under}
-use Rattle.ops.specs.Steps.{besideOf, Rows, Fit, Fits, Nears, Does, Refuses, Changes, parentAt, Within, Rooted, Under}
-use Rattle.ops.specs.declared.Beside.{Beside}
+use Rattle.nodes.specs.Parts.{besideOf, Rows}
+use Rattle.ops.specs.Steps.{Fit, Fits, Nears, Does, Refuses, Changes, parentAt, Within, Rooted, Under}
+use Rattle.nodes.specs.declared.Beside.{Beside}
 use Rattle.ops.specs.declared.Applying.{Applying}
-use Rattle.ops.proofs.SlotLaws.{bare-view, split-few}
+use Rattle.nodes.proofs.SlotLaws.{bare-view, split-few}
 use Rattle.ops.proofs.FinishLaws.{does-refused, does-like, does-full, does-wide, has-room, free-inside, spare-is, wide-set}
 
 -- ---- what has children is a split, in a slot

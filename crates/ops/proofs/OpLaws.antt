@@ -29,9 +29,10 @@ use Rattle.forest.specs.Lists.{never}
 use Rattle.forest.specs.Soundness.{slots-inside}
 use Rattle.repair.specs.Pack.{firstOf}
 use Rattle.lists.specs.Find.{position-found}
-use Rattle.ops.specs.Find.{isSplit, scanPane, Stands, scan-stands}
+use Rattle.nodes.specs.Find.{isSplit, scanPane, Stands, scan-stands}
 use Rattle.ops.specs.Near.{Alike, alike-self, alike-removed}
-use Rattle.ops.specs.Steps.{Fit, Fits, Does, Refuses, Changes, Taken, isGroup, reorderAs, reorderedIn}
+use Rattle.nodes.specs.Parts.{isGroup, reorderedIn}
+use Rattle.ops.specs.Steps.{Fit, Fits, Does, Refuses, Changes, Taken, reorderAs}
 use Rattle.ops.specs.declared.Applying.{Applying}
 use Rattle.ops.proofs.FinishLaws.{does-refuse, does-refused, does-like, does-wide, wide-set}
 

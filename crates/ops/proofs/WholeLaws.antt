@@ -25,7 +25,7 @@ use Rattle.forest.specs.Lists.{never}
 use Rattle.forest.specs.Quiet.{plainNodes}
 use Rattle.forest.specs.Settled.{Lone, Settled}
 use Rattle.lists.specs.Places.{getD-map}
-use Rattle.ops.specs.Find.{find-scan, parent-scan}
+use Rattle.nodes.specs.Find.{find-scan, parent-scan}
 use Rattle.ops.specs.Trees.{Standing, sound-cases, sound-standing}
 use Rattle.ops.specs.Steps.{Fit, applied, Does, Refuses}
 use Rattle.ops.specs.declared.Applying.{Applying}

@@ -1,5 +1,4 @@
 -- What the operations promise, and laws of the rules that their proofs cite.
-pub mod Find
 pub mod Trees
 pub mod Near
 pub mod Steps

@@ -19,7 +19,7 @@ use Rattle.rules.specs.declared.model.Axis.{Axis}
 use Rattle.rules.specs.declared.refusal.Refusal.{Refusal}
 use Rattle.rules.specs.declared.refusal.Refusal.the-variants.{InvalidTileId, InvalidOperation}
 use Rattle.forest.specs.Lists.{All, never}
-use Rattle.ops.specs.Find.{isSplit, Stands}
+use Rattle.nodes.specs.Find.{isSplit, Stands}
 use Rattle.ops.specs.Trees.{reading-like}
 
 -- ---- slots that are the same but where neither has a split: they read alike, and have the same parents

@@ -1,61 +1,29 @@
 -- What the calls of this crate promise: their answers as the rules have them. Definitions only.
 use mathlib.Core.Path.{_≡_}
-use mathlib.Core.Bool.{Bool, true, false}
-use mathlib.Core.List.{List, [], map}
+use mathlib.Core.Bool.{true, false}
+use mathlib.Core.List.{List, map}
 use mathlib.Core.Option.{Option, none, some}
-use mathlib.Core.Logic.{_⊎_}
 use Prim.Native.Nat.{ℕ, _≤_, _<_}
-use lib.Dec.{ltb, leb}
-use lib.ListN.{length, getElem?}
+use lib.Dec.{ltb}
+use lib.ListN.{length}
 use Rattle.rules.specs.Lists.{anyOf}
 use Rattle.rules.specs.Tree.{Node, empty, pane, tabs, split, Arena, nodeAt, emptySlots, isEmpty, sameTile, viewSlot, overSlot, view}
-use Rattle.rules.specs.Target.{PaneLocation, nowhere, inTile, inTabs, findPane, Parent, findParent, panesIn}
+use Rattle.rules.specs.Target.{findPane, Parent, findParent, panesIn}
 use Rattle.rules.specs.Insert as Insert
 use Rattle.rules.specs.Insert.{draft}
-use Rattle.rules.specs.Operations.{Change, Step, refuse, unchanged, changed, keptActive, reordered, reorderFrom, Applied, finish}
+use Rattle.rules.specs.Operations.{Change, Step, refuse, unchanged, changed, reorderFrom, Applied, finish}
 use Rattle.rules.specs.declared.model.TileId.{TileId}
-use Rattle.rules.specs.declared.model.Kind.{Kind}
-use Rattle.rules.specs.declared.model.Kind.the-variants.{Empty, Pane, Tabs, Split}
 use Rattle.rules.specs.declared.model.Slot.{Slot}
 use Rattle.rules.specs.declared.model.TileTree.{TileTree}
 use Rattle.rules.specs.declared.refusal.Answer.the-variants.{Refused}
 use Rattle.rules.specs.declared.refusal.Refusal.{Refusal}
 use Rattle.rules.specs.declared.refusal.Refusal.the-variants.{InvalidTileId}
-use Rattle.ops.specs.declared.PaneLocation.{PaneLocation as Location}
-use Rattle.ops.specs.declared.PaneLocation.the-variants.{Nowhere, Tile, InTabs}
-use Rattle.ops.specs.declared.Holder.{Holder}
-use Rattle.ops.specs.declared.Holder.the-variants.{Nothing, In}
-use Rattle.ops.specs.declared.Checked.{Checked}
-use Rattle.ops.specs.declared.Checked.the-variants.{Good, Bad}
-use Rattle.ops.specs.declared.Beside.{Beside}
+use Rattle.nodes.specs.declared.Beside.{Beside}
 use Rattle.ops.specs.declared.Applying.{Applying}
 use Rattle.forest.specs.Lists.{All}
 use Rattle.repair.specs.Pack.{firstOf}
-use Rattle.ops.specs.Find.{scanPane, scanParent, isSplit, Stands}
+use Rattle.nodes.specs.Find.{scanPane, scanParent, isSplit}
 use Rattle.ops.specs.Near.{Alike}
-
-abbrev pub locationOf : Location → PaneLocation
-locationOf Nowhere = nowhere
-locationOf (Tile t) = inTile t
-locationOf (InTabs g i) = inTabs g i
-
-abbrev pub holderOf : Holder → Option Parent
-holderOf Nothing = none
-holderOf (In s i) = some (record { split = s; index = i })
-
-abbrev pub checkedOf : Checked → Option Refusal
-checkedOf Good = none
-checkedOf (Bad e) = some e
-
-abbrev pub besideOf : Beside → Insert.Beside
-besideOf b = Insert.beside (b .target) (b .axis) (b .placement) (b .share)
-
--- the lists of a slot have 16 places each
-pub record Rows (s : Slot) : Type 0 where
-  pub panes : length (s .panes .at) ≡ 16
-  pub children : length (s .children .at) ≡ 16
-  pub shares : length (s .shares .at) ≡ 16
-  pub minima : length (s .minima .at) ≡ 16
 
 -- what a sound tree has: its lists are all there, and a scan of its slots finds what a walk from the root finds
 pub record Fit (t : TileTree) : Type 0 where
@@ -120,29 +88,6 @@ pub record Taken (t : TileTree) (out : List Slot) : Type 0 where
   pub fit : Fit t
   pub whole : anyOf overSlot out ≡ false
   pub alike : Alike (map viewSlot (t .slots)) (map viewSlot out)
-
-abbrev pub isGroup : Node → Type 0
-isGroup empty = ⊥
-isGroup (pane p) = ⊥
-isGroup (tabs b a ps) = Unit {0}
-isGroup (split a cs ss ms) = ⊥
-
--- no room for one more pane
-abbrev pub fullBy : Kind → Slot → Bool
-fullBy Empty s = false
-fullBy (Pane p) s = false
-fullBy (Tabs b) s = leb 16 (s .panes .len)
-fullBy (Split a) s = false
-
-abbrev pub isFull : Slot → Bool
-isFull s = fullBy (s .kind) s
-
--- a pane of a group in another place, and the active pane the same
-abbrev pub reorderedIn : ℕ → ℕ → ℕ → Node → Node
-reorderedIn p from to empty = empty
-reorderedIn p from to (pane q) = pane q
-reorderedIn p from to (tabs b a ps) = tabs b (keptActive (getElem? ps a) a (reordered ps p from to)) (reordered ps p from to)
-reorderedIn p from to (split x cs ss ms) = split x cs ss ms
 
 -- reorder, once the pane's place is known
 abbrev pub reorderAs : Option ℕ → Node → Arena → TileId → ℕ → ℕ → Step

@@ -30,7 +30,7 @@ use Rattle.forest.specs.Reach.{occupied-reached, read-once, tidy-panes, panes-o
 use Rattle.forest.specs.Equal.{and-both}
 use Rattle.forest.specs.Quiet.{plainNode, plainNodes}
 use Rattle.forest.specs.SoundIs.{quiet-repair, sound-is}
-use Rattle.ops.specs.Find.{OneTree}
+use Rattle.nodes.specs.Find.{OneTree}
 
 -- ---- a tile of a forest has one parent
 

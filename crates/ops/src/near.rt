@@ -1,11 +1,11 @@
 // Putting a tile beside another: the Rust's insert_tile_near.
 use crate::Applying;
-use crate::Beside;
-use crate::Holder;
-use crate::find;
+use nodes::Beside;
+use nodes::Holder;
+use nodes::find;
 use crate::finish;
-use crate::slots;
-use crate::splits;
+use nodes::slots;
+use nodes::splits;
 use repair::lone;
 use rules::model::Axis;
 use rules::model::Slot;
@@ -19,7 +19,8 @@ ghost use Rattle.rules.specs.Lists.{anyOf};
 ghost use Rattle.rules.specs.Tree.{view, viewSlot, overSlot};
 ghost use Rattle.rules.specs.Insert.{draft, sameAxisParent};
 ghost use Rattle.rules.specs.Operations.{putNear};
-ghost use Rattle.ops.specs.Steps.{Does, holderOf, besideOf, Fits, Nears, Within, Rooted, Under};
+ghost use Rattle.nodes.specs.Parts.{holderOf, besideOf};
+ghost use Rattle.ops.specs.Steps.{Does, Fits, Nears, Within, Rooted, Under};
 
 // Whether the parent is a split along the axis.
 fn same_axis_parent(slots: [Slot; 64], parent: Holder, axis: Axis) -> bool

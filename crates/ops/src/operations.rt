@@ -1,15 +1,15 @@
 // Each operation: the Rust's activate_pane, close_pane, split_pane, move_pane, insert_tile_at_target and reorder_tab.
 use crate::Applying;
-use crate::Beside;
-use crate::Checked;
-use crate::PaneLocation;
-use crate::find;
+use nodes::Beside;
+use nodes::Checked;
+use nodes::PaneLocation;
+use nodes::find;
 use crate::finish;
-use crate::groups;
+use nodes::groups;
 use crate::near;
-use crate::slots;
-use crate::take;
-use crate::target;
+use nodes::slots;
+use nodes::take;
+use nodes::target;
 use lists::Place;
 use lists::ids;
 use repair::lone;
@@ -35,7 +35,8 @@ ghost use Rattle.rules.specs.Target.{inTabs};
 ghost use Rattle.rules.specs.Insert.{draft};
 ghost use Rattle.rules.specs.Operations as Rule;
 ghost use Rattle.rules.specs.Tree as Tree;
-ghost use Rattle.ops.specs.Steps.{Does, Fit, Taken, besideOf, isGroup, reorderAs};
+ghost use Rattle.nodes.specs.Parts.{besideOf, isGroup};
+ghost use Rattle.ops.specs.Steps.{Does, Fit, Taken, reorderAs};
 
 // The tree with one slot changed; a fresh root, which it does not come to, would go into the lowest empty slot.
 fn change_only(t: TileTree, out: [Slot; 64]) -> Applying

@@ -2,7 +2,7 @@
 use crate::Applying;
 use crate::finish;
 use crate::operations;
-use crate::slots;
+use nodes::slots;
 use repair::lone;
 use repair::whole;
 use rules::model::TileTree;

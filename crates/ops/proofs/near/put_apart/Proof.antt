@@ -7,8 +7,9 @@ use mathlib.Core.List.{map}
 use mathlib.Core.Bool.{false}
 use Rattle.rules.specs.Tree.{viewSlot}
 use Rattle.rules.specs.Insert.{sameAxisParent}
-use Rattle.ops.specs.Steps.{holderOf, Nears}
-use Rattle.ops.specs.declared.Holder.{Holder}
+use Rattle.nodes.specs.Parts.{holderOf}
+use Rattle.ops.specs.Steps.{Nears}
+use Rattle.nodes.specs.declared.Holder.{Holder}
 use Rattle.ops.proofs.NearLaws.{put-loose}
 use borrow.Author.Needs.{needs}
 use Rattle.ops.proofs.near.put_apart.Statement.{statement}

@@ -6,8 +6,9 @@ use borrow.Author.Tests.{not-true, not-false}
 use Rattle.rules.specs.Tree.{viewSlot, isEmpty}
 use Rattle.rules.specs.Insert.{sameAxisParent}
 use Rattle.forest.specs.Lists.{never}
-use Rattle.ops.specs.Steps.{holderOf, Nears}
-use Rattle.ops.specs.declared.Holder.{Holder}
+use Rattle.nodes.specs.Parts.{holderOf}
+use Rattle.ops.specs.Steps.{Nears}
+use Rattle.nodes.specs.declared.Holder.{Holder}
 use Rattle.ops.proofs.NearLaws.{put-absent}
 use borrow.Author.Needs.{needs}
 use Rattle.ops.proofs.near.put_near.Statement.{statement}

@@ -3,8 +3,8 @@ use mathlib.Core.Path.{_≡_, refl, sym, ap, subst, _∙_}
 use mathlib.Core.List.{List, map}
 use Rattle.rules.specs.Tree.{viewSlot}
 use Rattle.rules.specs.Insert.{hasAxis, sameAxisParent}
-use Rattle.ops.specs.Steps.{holderOf}
-use Rattle.ops.specs.declared.Holder.{Holder}
+use Rattle.nodes.specs.Parts.{holderOf}
+use Rattle.nodes.specs.declared.Holder.{Holder}
 use borrow.Author.Needs.{needs}
 use Rattle.ops.proofs.near.same_axis_parent.Statement.{statement}
 use Rattle.ops.proofs.near.same_axis_parent.Tie as tie

@@ -3,7 +3,7 @@ use mathlib.Core.Path.{_≡_, refl, sym, ap, subst, _∙_}
 use Rattle.rules.specs.Tree.{Node, view, viewSlot, nodeAt, setNode}
 use Rattle.rules.specs.Operations as Rule
 use Rattle.rules.specs.Target.{PaneLocation}
-use Rattle.ops.specs.Steps.{locationOf}
+use Rattle.nodes.specs.Parts.{locationOf}
 use Rattle.rules.specs.declared.refusal.Refusal.the-variants.{InvalidPaneId}
 use Rattle.ops.proofs.FinishLaws.{does-refused, does-like}
 use Rattle.ops.proofs.OpLaws.{located-step}

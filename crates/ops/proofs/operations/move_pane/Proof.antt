@@ -4,7 +4,7 @@ use mathlib.Core.List.{List, [], _∷_, map}
 use Rattle.rules.specs.Tree.{Node, view, viewSlot, nodeAt, setNode}
 use Rattle.rules.specs.Operations as Rule
 use Rattle.rules.specs.Target.{PaneLocation}
-use Rattle.ops.specs.Steps.{locationOf, checkedOf}
+use Rattle.nodes.specs.Parts.{locationOf, checkedOf}
 use borrow.Author.Tests.{not-true, not-false}
 use Rattle.rules.specs.declared.refusal.Refusal.the-variants.{InvalidPaneId}
 use Rattle.ops.proofs.FinishLaws.{does-refused, does-like}

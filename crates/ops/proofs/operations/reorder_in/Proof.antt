@@ -11,8 +11,8 @@ use Rattle.rules.specs.Tree.{panesOf}
 use Rattle.rules.specs.declared.refusal.Refusal.the-variants.{InvalidPaneId}
 use Rattle.lists.specs.Find.{placeOf}
 use Rattle.ops.specs.Steps.{reorderAs}
-use Rattle.ops.proofs.SlotLaws.{tabs-few}
-use Rattle.ops.proofs.GroupLaws.{group-kind, group-panes}
+use Rattle.nodes.proofs.SlotLaws.{tabs-few}
+use Rattle.nodes.proofs.GroupLaws.{group-kind, group-panes}
 use Rattle.ops.proofs.FinishLaws.{does-refused, does-like}
 use Rattle.ops.proofs.OpLaws.{reorder-place, reorder-absent, reorder-found}
 use borrow.Author.Needs.{needs}

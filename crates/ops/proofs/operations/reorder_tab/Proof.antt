@@ -6,7 +6,7 @@ use Rattle.rules.specs.Operations as Rule
 use Rattle.rules.specs.declared.model.Kind.{Kind}
 use Rattle.rules.specs.Tree.{nodeOf}
 use Rattle.rules.specs.declared.refusal.Refusal.the-variants.{InvalidTileId}
-use Rattle.ops.proofs.GroupLaws.{is-group}
+use Rattle.nodes.proofs.GroupLaws.{is-group}
 use Rattle.ops.proofs.FinishLaws.{does-refused, does-like}
 use Rattle.ops.proofs.OpLaws.{reorder-kind}
 use borrow.Author.Needs.{needs}

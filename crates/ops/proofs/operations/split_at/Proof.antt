@@ -3,7 +3,7 @@ use mathlib.Core.Path.{_≡_, refl, sym, ap, subst, _∙_}
 use Rattle.rules.specs.Tree.{Node, view, viewSlot, nodeAt, setNode}
 use Rattle.rules.specs.Operations as Rule
 use Rattle.rules.specs.Tree.{pane}
-use Rattle.ops.specs.Steps.{besideOf}
+use Rattle.nodes.specs.Parts.{besideOf}
 use Rattle.ops.proofs.FinishLaws.{does-like}
 use Rattle.ops.proofs.OpLaws.{fits-new, none-taken}
 use borrow.Author.Needs.{needs}

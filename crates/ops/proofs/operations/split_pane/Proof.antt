@@ -2,7 +2,7 @@
 use mathlib.Core.Path.{_≡_, refl, sym, ap, subst, _∙_}
 use Rattle.rules.specs.Tree.{Node, view, viewSlot, nodeAt, setNode}
 use Rattle.rules.specs.Operations as Rule
-use Rattle.ops.specs.Steps.{locationOf, checkedOf}
+use Rattle.nodes.specs.Parts.{locationOf, checkedOf}
 use borrow.Author.Tests.{not-true, not-false}
 use Rattle.rules.specs.declared.refusal.Refusal.the-variants.{InvalidOperation, InvalidPaneId, DuplicatePane}
 use Rattle.ops.proofs.FinishLaws.{does-refused, does-like}

@@ -4,7 +4,7 @@ use mathlib.Core.List.{List, [], _∷_, map}
 use Rattle.rules.specs.Tree.{Node, view, viewSlot, nodeAt, setNode}
 use Rattle.rules.specs.Operations as Rule
 use Rattle.ops.proofs.FinishLaws.{does-like}
-use Rattle.ops.proofs.GroupLaws.{tabbed-wide}
+use Rattle.nodes.proofs.GroupLaws.{tabbed-wide}
 use Rattle.ops.proofs.OpLaws.{tab-full}
 use borrow.Author.Needs.{needs}
 use Rattle.ops.proofs.operations.tab_into.Statement.{statement}
