@@ -1,9 +1,9 @@
 // Putting a tile beside another: the Rust's insert_tile_near.
 use crate::Applying;
+use crate::finish;
 use nodes::Beside;
 use nodes::Holder;
 use nodes::find;
-use crate::finish;
 use nodes::slots;
 use nodes::splits;
 use repair::lone;
@@ -73,16 +73,16 @@ fn put_over(t: TileTree, out: [Slot; 64], new: Slot, b: Beside) -> Applying
     ensures { λ r. ⌜ Does t (putNear (view t) (viewSlot new) (besideOf b) (draft (t .root) (map viewSlot out))) r ⌝ }
 {
     let given = t.slots;
-    let e = slots::spares(given);
-    if 64 <= e.second {
+    let room = slots::spares(given);
+    if 64 <= room.second {
         return finish::refused(t, Refusal::ArenaFull);
     }
-    let inserted = TileId { slot: e.first };
-    let top = TileId { slot: e.second };
+    let inserted = TileId { slot: room.first };
+    let top = TileId { slot: room.second };
     let made = slots::set_node(out, inserted, new);
     let both = splits::new_split(b, inserted);
     let done = slots::set_node(made, top, both);
-    finish::change(t, top, done, e.third)
+    finish::change(t, top, done, room.third)
 }
 
 // In a parent of the other axis: a new split of the two takes the target's place, which keeps its share and minimum.

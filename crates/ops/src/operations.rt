@@ -1,17 +1,17 @@
 // Each operation: the Rust's activate_pane, close_pane, split_pane, move_pane, insert_tile_at_target and reorder_tab.
 use crate::Applying;
+use crate::finish;
+use crate::near;
+use lists::Place;
+use lists::ids;
 use nodes::Beside;
 use nodes::Checked;
 use nodes::PaneLocation;
 use nodes::find;
-use crate::finish;
 use nodes::groups;
-use crate::near;
 use nodes::slots;
 use nodes::take;
 use nodes::target;
-use lists::Place;
-use lists::ids;
 use repair::lone;
 use rules::model::Axis;
 use rules::model::Kind;
