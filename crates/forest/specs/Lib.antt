@@ -14,5 +14,7 @@ pub mod Sweep
 pub mod Equal
 pub mod Quiet
 pub mod SoundIs
+pub mod SoundCases
 pub mod Depth
 pub mod Finish
+pub mod Still

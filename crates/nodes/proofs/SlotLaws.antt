@@ -31,7 +31,7 @@ use Rattle.rules.specs.declared.refusal.Refusal.the-variants.{InvalidTileId, In
 use Rattle.forest.specs.Lists.{All, never}
 use Rattle.lists.specs.Exact.{IsIds}
 use Rattle.lists.specs.Places.{getD-map}
-use Rattle.repair.specs.Pack.{firstOf}
+use Rattle.columns.specs.Pack.{firstOf}
 
 -- ---- tests
 

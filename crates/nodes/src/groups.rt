@@ -1,6 +1,6 @@
 // Groups read and changed: the parts of activate_pane, insert_tile_at_target and reorder_tab that work on one group.
 use lists::ids;
-use repair::panes;
+use normalize::panes;
 use rules::model::Ids;
 use rules::model::Kind;
 use rules::model::Slot;

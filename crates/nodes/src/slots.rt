@@ -1,10 +1,9 @@
 // Slots read, written, taken and made: the Rust's get_node, set_node and push_node.
 use crate::Spares;
+use columns::pack;
 use lists::ids;
 use lists::reals;
 use lists::tiles;
-use repair::columns;
-use repair::lone;
 use rules::model::Kind;
 use rules::model::Reals;
 use rules::model::Slot;
@@ -20,7 +19,7 @@ ghost use Rattle.rules.specs.Lists.{anyOf};
 ghost use Rattle.rules.specs.Tree.{Node, viewSlot, overSlot, nodeAt, setNode, emptyFrom, emptySlots};
 ghost use Rattle.rules.specs.declared.model.TabBarPlacement.the-variants as Bars;
 ghost use Rattle.lists.specs.Exact.{IsTiles, IsReals};
-ghost use Rattle.repair.specs.Pack.{firstOf};
+ghost use Rattle.columns.specs.Pack.{firstOf};
 ghost use Rattle.nodes.specs.Parts.{Rows};
 
 // get_node, and the one place that resolves a tile id: one past the slots reads as empty.
@@ -30,7 +29,7 @@ pub fn get_node(slots: [Slot; 64], id: TileId) -> Slot
 {
     let i = id.slot;
     if 64 <= i {
-        return columns::bare_slot(Kind::Empty);
+        return pack::bare_slot(Kind::Empty);
     }
     let j = i as usize;
     slots[j]
@@ -59,7 +58,7 @@ fn next_empty(slots: [Slot; 64], from: u64) -> u64
     let mut i = from as usize;
     while i < 64 {
         let s = slots[i];
-        if lone::is_empty(s) {
+        if columns::slots::is_empty(s) {
             return i as u64;
         }
         i += 1;
@@ -71,7 +70,7 @@ fn next_empty(slots: [Slot; 64], from: u64) -> u64
 pub fn spares(slots: [Slot; 64]) -> Spares
     ensures { λ r. ⌜ (r .first ≡ getD (emptySlots (map viewSlot slots)) 0 64) × (r .second ≡ getD (emptySlots (map viewSlot slots)) 1 64) × (r .third ≡ getD (emptySlots (map viewSlot slots)) 2 64) ⌝ }
 {
-    lone::sized(slots);
+    columns::slots::sized(slots);
     let first = next_empty(slots, 0);
     if 64 <= first {
         return Spares {
@@ -105,14 +104,14 @@ pub fn rows(s: Slot)
 pub fn pane_slot(pane: u64) -> Slot
     ensures { λ r. ⌜ (viewSlot r ≡ Node.pane pane) × (overSlot r ≡ false) ⌝ }
 {
-    columns::bare_slot(Kind::Pane(pane))
+    pack::bare_slot(Kind::Pane(pane))
 }
 
 // TileNode::tabs(vec![pane]): a Top group with the one pane.
 pub fn top_group(pane: u64) -> Slot
     ensures { λ r. ⌜ (viewSlot r ≡ Node.tabs Bars.Top 0 (pane ∷ [])) × (overSlot r ≡ false) ⌝ }
 {
-    let mut s = columns::bare_slot(Kind::Tabs(TabBarPlacement::Top));
+    let mut s = pack::bare_slot(Kind::Tabs(TabBarPlacement::Top));
     let none = ids::empty();
     let panes = ids::push(none, pane);
     s.active = 0;

@@ -1,9 +1,9 @@
 // Splits made and changed: the parts of the Rust's insert_tile_near that work on one split.
 use crate::Beside;
 use crate::slots;
+use columns::pack;
 use lists::reals;
 use lists::tiles;
-use repair::columns;
 use rules::model::Axis;
 use rules::model::Kind;
 use rules::model::Placement;
@@ -143,7 +143,7 @@ pub fn new_split(b: Beside, inserted: TileId) -> Slot
 fn split_of(axis: Axis, first: TileId, second: TileId, a: f64, b: f64) -> Slot
     ensures { λ r. ⌜ (viewSlot r ≡ Tree.split axis (first ∷ second ∷ []) (a ∷ b ∷ []) []) × (overSlot r ≡ false) ⌝ }
 {
-    let mut s = columns::bare_slot(Kind::Split(axis));
+    let mut s = pack::bare_slot(Kind::Split(axis));
     let children = slots::two_tiles(first, second);
     let parts = slots::two_reals(a, b);
     let none = reals::empty();

@@ -1,8 +1,8 @@
 // Taking a pane out: the Rust's remove_pane.
 use crate::PaneLocation;
 use crate::slots;
+use columns::pack;
 use lists::ids;
-use repair::columns;
 use rules::model::Kind;
 use rules::model::Slot;
 ghost use mathlib.Core.Path.{_≡_};
@@ -64,7 +64,7 @@ pub fn remove_pane(slots: [Slot; 64], l: PaneLocation) -> [Slot; 64]
     match l {
         PaneLocation::Nowhere => slots,
         PaneLocation::Tile { tile } => {
-            let none = columns::bare_slot(Kind::Empty);
+            let none = pack::bare_slot(Kind::Empty);
             slots::set_node(slots, tile, none)
         }
         PaneLocation::InTabs { group, index } => {

@@ -1,7 +1,6 @@
 // Whether a dock target is good: the Rust's validate_target.
 use crate::Checked;
 use crate::slots;
-use repair::lone;
 use rules::model::Kind;
 use rules::model::Slot;
 use rules::operation::DockTarget;
@@ -19,7 +18,7 @@ ghost use Rattle.nodes.specs.Parts.{checkedOf};
 fn is_there(s: Slot) -> Checked
     ensures { λ r. ⌜ checkedOf r ≡ existing (viewSlot s) ⌝ }
 {
-    if lone::is_empty(s) {
+    if columns::slots::is_empty(s) {
         return Checked::Bad(Refusal::InvalidTileId);
     }
     Checked::Good

@@ -26,7 +26,7 @@ use Rattle.rules.specs.declared.refusal.Refusal.the-variants.{ArenaFull, TooWid
 use Rattle.forest.specs.Lists.{All, never}
 use Rattle.forest.specs.Finish.{normalized}
 use Rattle.forest.specs.Soundness.{slots-inside}
-use Rattle.repair.specs.Pack.{firstOf}
+use Rattle.columns.specs.Pack.{firstOf}
 use Rattle.repair.specs.Whole.{repaired, Normalizes}
 use Rattle.repair.specs.declared.Repairing.{Repairing}
 use Rattle.ops.specs.Steps.{applied, Does, Refuses, Changes}

@@ -27,7 +27,7 @@ use Rattle.rules.specs.declared.refusal.Refusal.{Refusal}
 use Rattle.rules.specs.declared.refusal.Refusal.the-variants.{TooWide, InvalidTileId, InvalidPaneId, InvalidOperation, DuplicatePane}
 use Rattle.forest.specs.Lists.{never}
 use Rattle.forest.specs.Soundness.{slots-inside}
-use Rattle.repair.specs.Pack.{firstOf}
+use Rattle.columns.specs.Pack.{firstOf}
 use Rattle.lists.specs.Find.{position-found}
 use Rattle.nodes.specs.Find.{isSplit, scanPane, Stands, scan-stands}
 use Rattle.ops.specs.Near.{Alike, alike-self, alike-removed}

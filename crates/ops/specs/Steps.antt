@@ -21,7 +21,7 @@ use Rattle.rules.specs.declared.refusal.Refusal.the-variants.{InvalidTileId}
 use Rattle.nodes.specs.declared.Beside.{Beside}
 use Rattle.ops.specs.declared.Applying.{Applying}
 use Rattle.forest.specs.Lists.{All}
-use Rattle.repair.specs.Pack.{firstOf}
+use Rattle.columns.specs.Pack.{firstOf}
 use Rattle.nodes.specs.Find.{scanPane, scanParent, isSplit}
 use Rattle.ops.specs.Near.{Alike}
 

@@ -6,7 +6,6 @@ use nodes::Holder;
 use nodes::find;
 use nodes::slots;
 use nodes::splits;
-use repair::lone;
 use rules::model::Axis;
 use rules::model::Slot;
 use rules::model::TileId;
@@ -139,7 +138,7 @@ pub fn put_near(t: TileTree, out: [Slot; 64], new: Slot, b: Beside) -> Applying
     let target = b.target;
     let given = t.slots;
     let at = slots::get_node(out, target);
-    if lone::is_empty(at) {
+    if columns::slots::is_empty(at) {
         return finish::refused(t, Refusal::InvalidTileId);
     }
     let parent = find::find_parent(given, target);

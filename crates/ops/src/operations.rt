@@ -12,7 +12,6 @@ use nodes::groups;
 use nodes::slots;
 use nodes::take;
 use nodes::target;
-use repair::lone;
 use rules::model::Axis;
 use rules::model::Kind;
 use rules::model::Placement;
@@ -45,8 +44,8 @@ fn change_only(t: TileTree, out: [Slot; 64]) -> Applying
 {
     let given = t.slots;
     let root = t.root;
-    lone::sized(given);
-    let spare = lone::first_empty(given);
+    columns::slots::sized(given);
+    let spare = columns::slots::first_empty(given);
     finish::change(t, root, out, spare)
 }
 
@@ -86,13 +85,13 @@ pub fn close_pane(t: TileTree, pane: u64) -> Applying
 {
     let given = t.slots;
     let root = t.root;
-    lone::sized(given);
+    columns::slots::sized(given);
     let l = find::find_pane(given, pane);
     if !find::is_somewhere(l) {
         return finish::refused(t, Refusal::InvalidPaneId);
     }
     let out = take::remove_pane(given, l);
-    let spare = lone::first_empty(given);
+    let spare = columns::slots::first_empty(given);
     finish::change(t, root, out, spare)
 }
 

@@ -3,7 +3,6 @@ use crate::Applying;
 use crate::finish;
 use crate::operations;
 use nodes::slots;
-use repair::lone;
 use repair::whole;
 use rules::model::TileTree;
 use rules::operation::TileOp;
@@ -47,7 +46,7 @@ fn root_listed(t: TileTree)
     ensures { λ r. ⌜ ((d : Slot) → t .root .slot < 64 → length (getD (t .slots) (t .root .slot) d .panes .at) ≡ 16) ⌝ }
 {
     let given = t.slots;
-    lone::sized(given);
+    columns::slots::sized(given);
     let top = t.root;
     let i = top.slot;
     if 64 <= i {
@@ -63,7 +62,7 @@ pub fn apply(t: TileTree, op: TileOp) -> Applying
     ensures { λ r. ⌜ (applied r ≡ Rule.apply (view t) op) × ((e : Refusal) → r .answer ≡ Answers.Refused e → r .tree ≡ t) × (sound (view t) ≡ true → Rule.applyInner (view t) op ≡ Rule.unchanged → r .tree ≡ t) ⌝ }
 {
     let given = t.slots;
-    lone::sized(given);
+    columns::slots::sized(given);
     root_listed(t);
     if !whole::is_sound(t) {
         return finish::refused(t, Refusal::NotSound);

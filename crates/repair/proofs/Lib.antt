@@ -1,7 +1,3 @@
-pub mod ColumnLaws
-pub mod LeafLaws
-pub mod SplitLaws
-pub mod WalkLaws
-pub mod PackLaws
-pub mod WholeLaws
 pub mod LoneLaws
+pub mod WholeLaws
+pub mod StillLaws

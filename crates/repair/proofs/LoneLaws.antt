@@ -1,5 +1,5 @@
--- Laws of the lone empty root and of the lowest empty slot: a group's three tests, and slots read in turn. Assumes nothing.
-use mathlib.Core.Path.{_≡_, refl, sym, ap, subst, _∙_}
+-- Laws of the lone empty root: a group's three tests, and all slots but one read in turn. Assumes nothing.
+use mathlib.Core.Path.{_≡_, refl, sym, ap, _∙_}
 use mathlib.Core.Bool.{Bool, true, false, not, _&&_, _||_}
 use mathlib.Core.List.{List, [], _∷_, map}
 use Prim.Native.Nat.{ℕ, zero, suc, _+_, _≤_, _<_}
@@ -8,17 +8,16 @@ use native.Mathlib.Decide.{ℕ-discrete}
 use native.Mathlib.Numerals.{add-one}
 use borrow.Author.Tests.{eq-eqb, ne-eqb}
 use lib.Dec.{eqb}
-use lib.ListN.{length, getD, take, drop, set, length-set, length-map, drop-of-length-le}
+use lib.ListN.{length, getD, take, drop, length-set, length-map, drop-of-length-le}
 use lib.Seq.{drop-cons, getD-set-same, getD-set-other}
 use Rattle.rules.specs.Lists.{allOf, sameList}
-use Rattle.rules.specs.Tree.{Node, empty, tile, view, viewSlot, clearNode, isEmpty, emptyBy, emptyFrom, emptySlots, emptyGroup, nodeOf, barCode, sameNode}
+use Rattle.rules.specs.Tree.{Node, empty, tile, view, viewSlot, clearNode, isEmpty, emptyGroup, nodeOf, barCode, sameNode}
 use Rattle.rules.specs.Sound.{loneEmptyRoot}
 use Rattle.rules.specs.declared.model.TileTree.{TileTree}
 use Rattle.rules.specs.declared.model.Slot.{Slot}
 use Rattle.rules.specs.declared.model.TabBarPlacement.{TabBarPlacement}
 use Rattle.rules.specs.declared.model.Kind.the-variants.{Tabs}
-use Rattle.repair.specs.Pack.{firstOf}
-use Rattle.repair.proofs.PackLaws.{getD-map}
+use Rattle.columns.specs.PackLaws.{getD-map}
 
 -- a test and its opposite
 pub not-true : (b : Bool) → not b ≡ true → b ≡ false
@@ -77,34 +76,6 @@ module _ (ss : List Slot) (root : ℕ) (size : length ss ≡ 64) where
   pub rest-all : (i : ℕ) → 64 ≤ i → Rest i → true ≡ allOf isEmpty rest
   unfolding allOf
   rest-all i h r = sym (ap (allOf isEmpty) (let h′ : length rest ≤ i = omega (arith, rest-long) in drop-of-length-le rest h′)) ∙ r
-
--- ---- the lowest empty slot
-
-module _ (ss : List Slot) (size : length ss ≡ 64) where
-  abbrev given : List Node
-  given = map viewSlot ss
-
-  -- none of the first i is empty
-  abbrev pub Passed : ℕ → Type 0
-  Passed i = firstOf (emptyFrom i (drop i given)) ≡ firstOf (emptySlots given)
-
-  passed-step : (i : ℕ) (d : Slot) → i < 64 → firstOf (emptyFrom i (drop i given)) ≡ firstOf (emptyBy (isEmpty (viewSlot (getD ss i d))) i (emptyFrom (suc i) (drop (suc i) given)))
-  unfolding emptyFrom
-  passed-step i d h =
-      ap (λ (l : List Node). firstOf (emptyFrom i l)) (drop-cons given i empty (omega (arith, length-map ss viewSlot, size)))
-      ∙ ap (λ (n : Node). firstOf (emptyBy (isEmpty n) i (emptyFrom (suc i) (drop (suc i) given)))) (getD-map viewSlot ss i d empty (omega (arith, size)))
-
-  pub passed-more : (i : ℕ) (d : Slot) → i < 64 → isEmpty (viewSlot (getD ss i d)) ≡ false → Passed i → Passed (i + 1)
-  passed-more i d h e p =
-      ap (λ (k : ℕ). firstOf (emptyFrom k (drop k given))) (add-one i)
-      ∙ sym (passed-step i d h ∙ ap (λ (b : Bool). firstOf (emptyBy b i (emptyFrom (suc i) (drop (suc i) given)))) e) ∙ p
-
-  pub passed-found : (i : ℕ) (d : Slot) → i < 64 → isEmpty (viewSlot (getD ss i d)) ≡ true → Passed i → i ≡ firstOf (emptySlots given)
-  passed-found i d h e p = sym (passed-step i d h ∙ ap (λ (b : Bool). firstOf (emptyBy b i (emptyFrom (suc i) (drop (suc i) given)))) e) ∙ p
-
-  pub passed-all : (i : ℕ) → 64 ≤ i → Passed i → 64 ≡ firstOf (emptySlots given)
-  unfolding emptyFrom
-  passed-all i h p = sym (ap (λ (l : List Node). firstOf (emptyFrom i l)) (let h′ : length given ≤ i = omega (arith, length-map ss viewSlot, size) in drop-of-length-le given h′)) ∙ p
 
 -- ---- the root
 

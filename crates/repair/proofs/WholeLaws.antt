@@ -1,19 +1,18 @@
 -- Laws of a whole repair, over plain values: how it begins, and how each end of the walk gives the rule's answer. Assumes nothing.
 use mathlib.Core.Path.{_≡_, refl, sym, ap, subst, _∙_}
 use mathlib.Core.Logic.{_⊎_, inl, inr}
-use mathlib.Core.Bool.{Bool, true, false, _&&_, _||_}
+use mathlib.Core.Bool.{Bool, true, false, _||_}
 use mathlib.Core.List.{List, [], _∷_, map}
-use mathlib.Core.Option.{Option, none, some}
-use Prim.Native.Nat.{ℕ, zero, suc, _+_, _*_, _≤_, _<_}
+use Prim.Native.Nat.{ℕ, zero, suc, _+_, _≤_, _<_}
 use native.Mathlib.Omega.{arith}
-use borrow.Author.Tests.{le-ltb, ne-eqb, ltb-true, ltb-false}
-use lib.Dec.{eqb, ltb}
-use lib.ListN.{length, getD, take, set, replicate, length-map, length-take, length-set}
+use borrow.Author.Tests.{le-ltb, ltb-true, ltb-false}
+use lib.Dec.{ltb}
+use lib.ListN.{length, getD, take, set, replicate, length-map, length-take}
 use lib.Ieee.{Float}
 use Rattle.rules.specs.Lists.{anyOf}
-use Rattle.rules.specs.Tree.{Node, empty, Arena, arena, tile, setNode, emptySlots, emptyGroup, wideNode, viewSlot, overSlot, view}
-use Rattle.rules.specs.Repair.{State, Work, Out, begin, normalizeNode, Repaired, refusedRepair, repair}
-use Rattle.rules.specs.Sound.{isAccepted, isNone, loneEmptyRoot, sound}
+use Rattle.rules.specs.Tree.{Node, empty, Arena, tile, setNode, emptySlots, emptyGroup, wideNode, viewSlot, overSlot, view}
+use Rattle.rules.specs.Repair.{Out, begin, normalizeNode, refusedRepair, repair}
+use Rattle.rules.specs.declared.model.Slot.{Slot}
 use Rattle.rules.specs.declared.model.TileTree.{TileTree}
 use Rattle.rules.specs.declared.model.RepairAction.{RepairAction}
 use Rattle.rules.specs.declared.refusal.Answer.{Answer}
@@ -22,20 +21,18 @@ use Rattle.rules.specs.declared.refusal.Refusal.{Refusal}
 use Rattle.rules.specs.declared.refusal.Refusal.the-variants.{ArenaFull, TooWide}
 use Rattle.forest.specs.Lists.{All, free}
 use Rattle.forest.specs.Soundness.{slots-inside}
-use Rattle.forest.specs.SoundIs.{sound-is}
 use Rattle.forest.specs.Sweep.{actionsBy}
 use Rattle.forest.specs.Finish.{finishedAs, normalized, repair-over, repair-whole, normalized-kept, normalized-wide, normalized-full, normalized-fresh}
-use Rattle.repair.specs.Columns.{Cols, cols, nodesIn, nodeBy, nodeFrom, nodesFrom, Slim, Sized, Shows, Lists}
-use Rattle.repair.specs.Walked.{Walked}
-use Rattle.repair.specs.Pack.{headOf, idsOf, sharesOf, minimaOf, Sweeps, firstOf, actionOf, reported}
-use Rattle.repair.specs.Whole.{repaired, Repairs, Normalizes, Refuses, Finishes, Plants}
-use Rattle.repair.specs.declared.Counts.{Counts}
-use Rattle.repair.specs.declared.Listed.{Listed}
+use Rattle.normalize.specs.Work.{Cols, cols, nodesIn, Sized, Shows}
+use Rattle.columns.specs.Columns.{nodeBy, nodesFrom, Slim, Lists}
+use Rattle.normalize.specs.Walked.{Walked}
+use Rattle.columns.specs.Pack.{headOf, idsOf, sharesOf, minimaOf, Sweeps, firstOf, reported, Unpacks}
+use Rattle.repair.specs.Whole.{repaired, Columned, Repairs, Normalizes, Refuses, Finishes, Plants}
+use Rattle.normalize.specs.declared.Counts.{Counts}
 use Rattle.repair.specs.declared.Repairing.{Repairing}
-use Rattle.repair.specs.declared.Kept.{Kept}
-use Rattle.repair.specs.declared.Kept.the-variants.{At, Gone, Wide}
-use Rattle.repair.proofs.ColumnLaws.{nodes-head, slim-set}
-use Rattle.repair.proofs.PackLaws.{or-left, or-right, unpacked, unpacked-slim}
+use Rattle.normalize.specs.declared.Kept.{Kept}
+use Rattle.normalize.specs.declared.Kept.the-variants.{At, Gone, Wide}
+use Rattle.columns.specs.PackLaws.{or-left, or-right, unpacked, unpacked-slim}
 
 -- ---- no list of slim heads is too wide
 
@@ -57,7 +54,7 @@ narrow-from (h ∷ hs) (x ∷ xs) [] ms s = refl
 narrow-from (h ∷ hs) (x ∷ xs) (y ∷ ss) [] s = refl
 narrow-from (h ∷ hs) (x ∷ xs) (y ∷ ss) (m ∷ ms) s = ap (λ (b : Bool). b || anyOf wideNode (nodesFrom hs xs ss ms)) (narrow-node (getD h 0 0) h x y m (s 0)) ∙ narrow-from hs xs ss ms (λ i. s (suc i))
 
-narrow-in : (C : Cols) → Sized C → anyOf wideNode (nodesIn C) ≡ false
+pub narrow-in : (C : Cols) → Sized C → anyOf wideNode (nodesIn C) ≡ false
 narrow-in C S = narrow-from (C .heads) (C .ids) (C .shares) (C .minima) (S .slim)
 
 narrow-set : (ns : List Node) (i : ℕ) → anyOf wideNode ns ≡ false → anyOf wideNode (set ns i emptyGroup) ≡ false
@@ -111,10 +108,10 @@ finishes hs xs ss ms cs acts n hs′ acts′ m v root r lx ls lm S (p, o) R e er
 -- ---- the walk begins
 
 module _ (hs xs : List (List ℕ)) (ss ms : List (List Float)) (seen : List ℕ) (acts : List (List ℕ)) where
-  abbrev nothing : Counts
+  abbrev pub nothing : Counts
   nothing = record { seen = 0; acts = 0 }
 
-  abbrev start : Cols
+  abbrev pub start : Cols
   start = cols hs xs ss ms (replicate 64 false) seen acts nothing
 
   pub start-sized : length hs ≡ 64 → length xs ≡ 64 → length ss ≡ 64 → length ms ≡ 64 → ((i : ℕ) → Slim (getD hs i [])) → Sized start
@@ -177,58 +174,61 @@ module _ (t : TileTree) (size : length (t .slots) ≡ 64) (C : Cols) (few : free
           normalized-fresh a long free k spare is e h (narrow-set (o .work .state .nodes) spare (ap (anyOf wideNode) (S .nodes) ∙ narrow-in D (W .sized)))
           ∙ (λ z. finishedAs a (tile spare) (set (S .claimed z) spare true) (setNode (tile spare) emptyGroup (S .nodes z)) (o .work .actions)))
 
+-- ---- the columns of slots
+
+module _ (s : List Slot) (hs xs : List (List ℕ)) (ss ms : List (List Float)) (size : length s ≡ 64) (U : Unpacks s hs xs ss ms) where
+  pub heads-long : length hs ≡ 64
+  heads-long = ap length (U .heads) ∙ length-map s headOf ∙ size
+
+  pub ids-long : length xs ≡ 64
+  ids-long = ap length (U .ids) ∙ length-map s idsOf ∙ size
+
+  pub shares-long : length ss ≡ 64
+  shares-long = ap length (U .shares) ∙ length-map s sharesOf ∙ size
+
+  pub minima-long : length ms ≡ 64
+  minima-long = ap length (U .minima) ∙ length-map s minimaOf ∙ size
+
+  pub columns-show : nodesFrom hs xs ss ms ≡ map viewSlot s
+  columns-show = (λ z. nodesFrom (U .heads z) (U .ids z) (U .shares z) (U .minima z)) ∙ unpacked s
+
+-- the lowest empty slot, told by the heads
+pub first-in : (t : TileTree) (hs xs : List (List ℕ)) (ss ms : List (List Float)) → Columned t hs xs ss ms → (r : ℕ)
+    → ((ys : List (List ℕ)) (us ns : List (List Float)) → length ys ≡ 64 → length us ≡ 64 → length ns ≡ 64 → r ≡ firstOf (emptySlots (nodesFrom hs ys us ns))) → r ≡ firstOf (emptySlots (map viewSlot (t .slots)))
+first-in t hs xs ss ms K r f =
+    f xs ss ms (ids-long (t .slots) hs xs ss ms (K .size) (K .columns)) (shares-long (t .slots) hs xs ss ms (K .size) (K .columns)) (minima-long (t .slots) hs xs ss ms (K .size) (K .columns))
+    ∙ ap (λ (ns : List Node). firstOf (emptySlots ns)) (columns-show (t .slots) hs xs ss ms (K .size) (K .columns))
+
 -- ---- the same of a tree's columns
 
 -- the sweep has room for what it lists
 pub room-left : (D : Cols) → Sized D → D .counts .acts + 64 ≤ 1300
 room-left D S = omega (arith, S .listing)
 
-module _ (t : TileTree) (whole : anyOf overSlot (t .slots) ≡ false) (hs xs : List (List ℕ)) (ss ms : List (List Float)) (seen : List ℕ) (acts : List (List ℕ))
-    (eh : hs ≡ map headOf (t .slots)) (ex : xs ≡ map idsOf (t .slots)) (es : ss ≡ map sharesOf (t .slots)) (em : ms ≡ map minimaOf (t .slots)) (size : length (t .slots) ≡ 64) where
-  shows : nodesFrom hs xs ss ms ≡ map viewSlot (t .slots)
-  shows = (λ z. nodesFrom (eh z) (ex z) (es z) (em z)) ∙ unpacked (t .slots)
-
-  ids-long : length xs ≡ 64
-  ids-long = ap length ex ∙ length-map (t .slots) idsOf ∙ size
-
-  shares-long : length ss ≡ 64
-  shares-long = ap length es ∙ length-map (t .slots) sharesOf ∙ size
-
-  minima-long : length ms ≡ 64
-  minima-long = ap length em ∙ length-map (t .slots) minimaOf ∙ size
+module _ (t : TileTree) (whole : anyOf overSlot (t .slots) ≡ false) (hs xs : List (List ℕ)) (ss ms : List (List Float)) (seen : List ℕ) (acts : List (List ℕ)) (K : Columned t hs xs ss ms) where
+  abbrev U : Unpacks (t .slots) hs xs ss ms
+  U = K .columns
 
   pub begun-sized : Sized (start hs xs ss ms seen acts)
   begun-sized =
-      start-sized hs xs ss ms seen acts (ap length eh ∙ length-map (t .slots) headOf ∙ size) ids-long shares-long minima-long
-      (λ i. subst (λ (l : List (List ℕ)). Slim (getD l i [])) (sym eh) (unpacked-slim (t .slots) whole i))
+      start-sized hs xs ss ms seen acts (heads-long (t .slots) hs xs ss ms (K .size) U) (ids-long (t .slots) hs xs ss ms (K .size) U) (shares-long (t .slots) hs xs ss ms (K .size) U) (minima-long (t .slots) hs xs ss ms (K .size) U)
+      (λ i. subst (λ (l : List (List ℕ)). Slim (getD l i [])) (sym (U .heads)) (unpacked-slim (t .slots) whole i))
 
   module _ (D : Cols) (k : Kept) (W : Walked (start hs xs ss ms seen acts) D k (t .root .slot)) (spare : ℕ) (r : Repairing) where
     abbrev C : Cols
     C = start hs xs ss ms seen acts
 
     shown : Shows C (begin (view t .nodes))
-    shown = start-shows hs xs ss ms seen acts (map viewSlot (t .slots)) shows
+    shown = start-shows hs xs ss ms seen acts (map viewSlot (t .slots)) (columns-show (t .slots) hs xs ss ms (K .size) U)
 
     told : (q : Kept) → k ≡ q → Walked C D q (t .root .slot)
     told q e = subst (λ (x : Kept). Walked C D x (t .root .slot)) e W
 
     pub whole-kept : (s : ℕ) → k ≡ At s → Finishes (nodesIn D) (D .claimed) (D .acts) (D .counts .acts) (t .revision) s r → Normalizes t spare r
-    whole-kept s e F = ended-kept t size C (omega arith) shown D spare r s (told (At s) e) F
+    whole-kept s e F = ended-kept t (K .size) C (omega arith) shown D spare r s (told (At s) e) F
 
     pub whole-gone : k ≡ Gone → Plants t (nodesIn D) (D .claimed) (D .acts) (D .counts .acts) spare r → Normalizes t spare r
-    whole-gone e P = ended-gone t size C (omega arith) shown D spare r (told Gone e) P
+    whole-gone e P = ended-gone t (K .size) C (omega arith) shown D spare r (told Gone e) P
 
     pub whole-wide : k ≡ Wide → Refuses t TooWide r → Normalizes t spare r
-    whole-wide e R = ended-wide t size C (omega arith) shown D spare r (told Wide e) R
-
--- ---- soundness, from a repair's answer
-
-pub none-listed : (at : List Listed) (n : ℕ) → 0 < length at → eqb n 0 ≡ isNone (map actionOf (take n at))
-none-listed at zero h = refl
-none-listed [] (suc n) h = absurd (omega arith)
-none-listed (x ∷ at) (suc n) h = ne-eqb (suc n) 0 (λ e. omega (arith, e))
-
-pub sound-by : (t : TileTree) → length (t .slots) ≡ 64 → (r : Repairing) → repaired r ≡ repair (view t)
-    → ((isAccepted (r .answer) && isNone (reported (r .actions))) || loneEmptyRoot (view t)) ≡ sound (view t)
-sound-by t size r e =
-    ap (λ (x : Repaired). (isAccepted (x .answer) && isNone (x .actions)) || loneEmptyRoot (view t)) e ∙ sym (sound-is (view t) (length-map (t .slots) viewSlot ∙ size))
+    whole-wide e R = ended-wide t (K .size) C (omega arith) shown D spare r (told Wide e) R

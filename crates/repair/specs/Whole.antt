@@ -3,7 +3,8 @@ use mathlib.Core.Path.{_≡_}
 use mathlib.Core.Bool.{Bool, true}
 use mathlib.Core.List.{List, []}
 use Prim.Native.Nat.{ℕ, _≤_, _<_}
-use lib.ListN.{set}
+use lib.ListN.{length, set}
+use lib.Ieee.{Float}
 use Rattle.rules.specs.Tree.{Node, arena, tile, setNode, emptyGroup, view}
 use Rattle.rules.specs.Repair.{Repaired, repair}
 use Rattle.rules.specs.declared.model.TileTree.{TileTree}
@@ -14,8 +15,8 @@ use Rattle.rules.specs.declared.refusal.Refusal.the-variants.{ArenaFull}
 use Rattle.forest.specs.Lists.{All}
 use Rattle.forest.specs.Sweep.{sweptBy, actionsBy}
 use Rattle.forest.specs.Finish.{normalized}
-use Rattle.repair.specs.Columns.{Lists}
-use Rattle.repair.specs.Pack.{firstOf, reported}
+use Rattle.columns.specs.Columns.{Lists}
+use Rattle.columns.specs.Pack.{Unpacks, firstOf, reported}
 use Rattle.repair.specs.declared.Repairing.{Repairing}
 
 -- what a repair answered, as the rule has it
@@ -25,6 +26,11 @@ repaired r = record { answer = r .answer; tree = view (r .tree); actions = repor
 -- the rule's answer; and a refused tree is the tree given, to the last place of its lists
 abbrev pub Repairs : TileTree → Repairing → Type 0
 Repairs t r = (repaired r ≡ repair (view t)) × ((e : Refusal) → r .answer ≡ Refused e → r .tree ≡ t)
+
+-- the columns of a tree
+pub record Columned (t : TileTree) (hs xs : List (List ℕ)) (ss ms : List (List Float)) : Type 0 where
+  pub size : length (t .slots) ≡ 64
+  pub columns : Unpacks (t .slots) hs xs ss ms
 
 -- normalize_with_report: the same with any list of free slots whose first is the spare one
 pub record Normalizes (t : TileTree) (spare : ℕ) (r : Repairing) : Type 0 where

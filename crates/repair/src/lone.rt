@@ -1,5 +1,6 @@
 // The one sound tree that repair would alter: its only occupied slot is the root, an empty Hidden group with active 0.
-use crate::columns;
+use columns::slots;
+use columns::unpack;
 use rules::model::Kind;
 use rules::model::Slot;
 use rules::model::TabBarPlacement;
@@ -8,11 +9,9 @@ ghost use mathlib.Core.Path.{_≡_};
 ghost use mathlib.Core.Bool.{_&&_, _||_};
 ghost use mathlib.Core.List.{map};
 ghost use lib.Dec.{eqb};
-ghost use lib.ListN.{length};
 ghost use Rattle.rules.specs.Lists.{allOf};
-ghost use Rattle.rules.specs.Tree.{tile, view, viewSlot, clearNode, isEmpty, emptySlots, emptyGroup, barCode, sameNode};
+ghost use Rattle.rules.specs.Tree.{tile, view, viewSlot, clearNode, isEmpty, emptyGroup, barCode, sameNode};
 ghost use Rattle.rules.specs.Sound.{loneEmptyRoot};
-ghost use Rattle.repair.specs.Pack.{firstOf};
 
 fn both(a: bool, b: bool) -> bool
     ensures { λ r. ⌜ r ≡ (a && b) ⌝ }
@@ -27,7 +26,7 @@ fn both(a: bool, b: bool) -> bool
 fn is_blank(b: TabBarPlacement, active: usize, len: usize) -> bool
     ensures { λ r. ⌜ r ≡ (eqb (barCode b) 0 && eqb active 0 && eqb len 0) ⌝ }
 {
-    let bar = columns::bar_code(b);
+    let bar = unpack::bar_code(b);
     let first = both(bar == 0, active == 0);
     both(first, len == 0)
 }
@@ -45,18 +44,6 @@ fn is_empty_group(s: Slot) -> bool
     }
 }
 
-pub fn is_empty(s: Slot) -> bool
-    ensures { λ r. ⌜ r ≡ isEmpty (viewSlot s) ⌝ }
-{
-    let k = s.kind;
-    match k {
-        Kind::Empty => true,
-        Kind::Pane(_) => false,
-        Kind::Tabs(_) => false,
-        Kind::Split(_) => false,
-    }
-}
-
 // Whether a slot is the root's, or empty.
 fn passes(s: Slot, i: usize, root: u64) -> bool
     ensures { λ r. ⌜ r ≡ (eqb i root || isEmpty (viewSlot s)) ⌝ }
@@ -64,7 +51,7 @@ fn passes(s: Slot, i: usize, root: u64) -> bool
     if i as u64 == root {
         return true;
     }
-    is_empty(s)
+    slots::is_empty(s)
 }
 
 // Whether all slots but the root's are empty.
@@ -82,33 +69,13 @@ fn others_empty(slots: [Slot; 64], root: u64) -> bool
     true
 }
 
-// The lowest empty slot, 64 where there is none.
-pub fn first_empty(slots: [Slot; 64]) -> u64
-    ensures { λ r. ⌜ r ≡ firstOf (emptySlots (map viewSlot slots)) ⌝ }
-{
-    let mut i = 0usize;
-    while i < 64 {
-        let s = slots[i];
-        if is_empty(s) {
-            return i as u64;
-        }
-        i += 1;
-    }
-    64
-}
-
-// The slots of a tree are 64.
-pub fn sized(slots: [Slot; 64])
-    ensures { λ r. ⌜ length slots ≡ 64 ⌝ }
-{}
-
 pub fn lone_empty_root(t: TileTree) -> bool
     ensures { λ r. ⌜ r ≡ loneEmptyRoot (view t) ⌝ }
 {
     let top = t.root;
     let root = top.slot;
     let slots = t.slots;
-    sized(slots);
+    slots::sized(slots);
     if 64 <= root {
         return false;
     }

@@ -1,33 +1,38 @@
 // The whole of a repair: the Rust's repair and normalize_with_report, and soundness by it.
-use crate::Counts;
-use crate::Kept;
-use crate::Listed;
 use crate::Repairing;
-use crate::columns;
 use crate::lone;
-use crate::normalize;
+use columns::actions;
+use columns::listing;
+use columns::pack;
+use columns::slots;
+use columns::sweep;
+use columns::unpack;
+use normalize::Counts;
+use normalize::Kept;
+use normalize::nodes;
 use rules::model::TileId;
 use rules::model::TileTree;
 use rules::refusal::Answer;
 use rules::refusal::Refusal;
-ghost use mathlib.Core.Path.{_≡_};
-ghost use mathlib.Core.Bool.{Bool, _&&_};
 ghost use mathlib.Core.List.{[]};
+ghost use mathlib.Core.Path.{_≡_};
+ghost use mathlib.Core.Bool.{Bool};
 ghost use Prim.Native.Nat.{ℕ, _+_, _≤_};
 ghost use lib.ListN.{length, getD};
 ghost use Rattle.rules.specs.Lists.{anyOf};
 ghost use Rattle.rules.specs.Tree.{view, overSlot};
 ghost use Rattle.rules.specs.Repair as Rule;
-ghost use Rattle.rules.specs.Sound.{isAccepted, isNone, sound};
+ghost use Rattle.rules.specs.Sound.{sound};
+ghost use Rattle.rules.specs.declared.model.TileTree.{TileTree};
+ghost use Rattle.forest.specs.Still.{isStill};
 ghost use Rattle.rules.specs.declared.refusal.Answer.the-variants as Answers;
-ghost use Rattle.repair.specs.Columns.{nodesFrom, Slim};
-ghost use Rattle.repair.specs.Pack.{reported};
-ghost use Rattle.repair.specs.Whole.{repaired, Normalizes, Refuses, Finishes, Plants};
+ghost use Rattle.columns.specs.Columns.{nodesFrom, Slim};
+ghost use Rattle.repair.specs.Whole.{repaired, Columned, Normalizes, Refuses, Finishes, Plants};
 
 fn refused(t: TileTree, e: Refusal) -> Repairing
     ensures { λ r. ⌜ Refuses t e r ⌝ }
 {
-    let actions = columns::no_report();
+    let actions = listing::no_report();
     Repairing {
         answer: Answer::Refused(e),
         tree: t,
@@ -35,37 +40,24 @@ fn refused(t: TileTree, e: Refusal) -> Repairing
     }
 }
 
-// The columns that the sweep leaves alone have a row for each slot.
-fn even(ids: [[u64; 16]; 64], shares: [[f64; 16]; 64], minima: [[f64; 16]; 64])
-    ensures { λ r. ⌜ (length ids ≡ 64) × (length shares ≡ 64) × (length minima ≡ 64) ⌝ }
-{}
-
-// A report has 1,300 places.
-fn full(at: [Listed; 1300])
-    ensures { λ r. ⌜ length at ≡ 1300 ⌝ }
-{}
-
 // The sweep, the slots packed under the root, and the report.
 fn finish(
-    given: [[u64; 8]; 64],
-    ids: [[u64; 16]; 64],
-    shares: [[f64; 16]; 64],
-    minima: [[f64; 16]; 64],
-    claimed: [bool; 64],
-    listed: [[u64; 3]; 1300],
+    heads: &mut [[u64; 8]; 64],
+    ids: &[[u64; 16]; 64],
+    shares: &[[f64; 16]; 64],
+    minima: &[[f64; 16]; 64],
+    claimed: &[bool; 64],
+    acts: &mut [[u64; 3]; 1300],
     n: usize,
     revision: u64,
     root: u64,
 ) -> Repairing
-    requires { ⌜ ((i : ℕ) → Slim (getD given i [])) × (n + 64 ≤ 1300) ⌝ }
-    ensures { λ r. ⌜ Finishes (nodesFrom given ids shares minima) claimed listed n revision root r ⌝ }
+    requires { ⌜ (length (now heads) ≡ 64) × (length (now ids) ≡ 64) × (length (now shares) ≡ 64) × (length (now minima) ≡ 64) × (length (now claimed) ≡ 64) × ((i : ℕ) → Slim (getD (now heads) i [])) × (n + 64 ≤ 1300) ⌝ }
+    ensures { λ r. ⌜ Finishes (nodesFrom (now (heads .entry)) (now (ids .entry)) (now (shares .entry)) (now (minima .entry))) (now (claimed .entry)) (now (acts .entry)) n revision root r ⌝ }
 {
-    even(ids, shares, minima);
-    let mut heads = given;
-    let mut acts = listed;
-    let m = columns::sweep(&mut heads, &claimed, &mut acts, n);
-    let slots = columns::pack(heads, ids, shares, minima);
-    let actions = columns::report(&acts, m);
+    let m = sweep::sweep(heads, claimed, acts, n);
+    let slots = pack::pack(heads, ids, shares, minima);
+    let actions = listing::report(acts, m);
     let top = TileId { slot: root };
     let tree = TileTree {
         root: top,
@@ -82,25 +74,23 @@ fn finish(
 // Nothing was kept: an empty Hidden group in the spare slot becomes the root; 64 stands for no slot.
 fn plant(
     t: TileTree,
-    given: [[u64; 8]; 64],
-    ids: [[u64; 16]; 64],
-    shares: [[f64; 16]; 64],
-    minima: [[f64; 16]; 64],
-    flags: [bool; 64],
-    acts: [[u64; 3]; 1300],
+    heads: &mut [[u64; 8]; 64],
+    ids: &[[u64; 16]; 64],
+    shares: &[[f64; 16]; 64],
+    minima: &[[f64; 16]; 64],
+    claimed: &mut [bool; 64],
+    acts: &mut [[u64; 3]; 1300],
     n: usize,
     spare: u64,
 ) -> Repairing
-    requires { ⌜ ((i : ℕ) → Slim (getD given i [])) × (n + 64 ≤ 1300) ⌝ }
-    ensures { λ r. ⌜ Plants t (nodesFrom given ids shares minima) flags acts n spare r ⌝ }
+    requires { ⌜ (length (now heads) ≡ 64) × (length (now ids) ≡ 64) × (length (now shares) ≡ 64) × (length (now minima) ≡ 64) × (length (now claimed) ≡ 64) × ((i : ℕ) → Slim (getD (now heads) i [])) × (n + 64 ≤ 1300) ⌝ }
+    ensures { λ r. ⌜ Plants t (nodesFrom (now (heads .entry)) (now (ids .entry)) (now (shares .entry)) (now (minima .entry))) (now (claimed .entry)) (now (acts .entry)) n spare r ⌝ }
 {
     if 64 <= spare {
         return refused(t, Refusal::ArenaFull);
     }
     let i = spare as usize;
-    let mut heads = given;
     heads[i] = [2u64, 0, 0, 0, 0, 0, 0, 0];
-    let mut claimed = flags;
     claimed[i] = true;
     finish(
         heads,
@@ -115,26 +105,27 @@ fn plant(
     )
 }
 
-// normalize_with_report, of a tree whose lists are all there. A fresh root goes into the spare slot; 64 stands for no slot.
-pub fn normalize_with_report(t: TileTree, spare: u64) -> Repairing
-    requires { ⌜ anyOf overSlot (t .slots) ≡ Bool.false ⌝ }
+// normalize_with_report of the columns of a tree, whose lists are all there.
+fn settle(
+    t: TileTree,
+    spare: u64,
+    heads: &mut [[u64; 8]; 64],
+    ids: &mut [[u64; 16]; 64],
+    shares: &mut [[f64; 16]; 64],
+    minima: &mut [[f64; 16]; 64],
+) -> Repairing
+    requires { ⌜ Columned t (now heads) (now ids) (now shares) (now minima) × (anyOf overSlot (t .slots) ≡ Bool.false) ⌝ }
     ensures { λ r. ⌜ Normalizes t spare r ⌝ }
 {
-    let slots = t.slots;
     let top = t.root;
-    lone::sized(slots);
-    let mut heads = columns::heads_of(slots);
-    let mut ids = columns::ids_of(slots);
-    let mut shares = columns::shares_of(slots);
-    let mut minima = columns::minima_of(slots);
     let mut claimed = [false; 64];
     let mut seen = [0u64; 1024];
     let mut acts = [[0u64; 3]; 1300];
-    let w = normalize::normalize_node(
-        &mut heads,
-        &mut ids,
-        &mut shares,
-        &mut minima,
+    let w = nodes::normalize_node(
+        heads,
+        ids,
+        shares,
+        minima,
         &mut claimed,
         &mut seen,
         &mut acts,
@@ -149,15 +140,40 @@ pub fn normalize_with_report(t: TileTree, spare: u64) -> Repairing
             ids,
             shares,
             minima,
-            claimed,
-            acts,
+            &claimed,
+            &mut acts,
             c.acts,
             t.revision,
             root,
         ),
-        Kept::Gone => plant(t, heads, ids, shares, minima, claimed, acts, c.acts, spare),
+        Kept::Gone => plant(
+            t,
+            heads,
+            ids,
+            shares,
+            minima,
+            &mut claimed,
+            &mut acts,
+            c.acts,
+            spare,
+        ),
         Kept::Wide => refused(t, Refusal::TooWide),
     }
+}
+
+// normalize_with_report, of a tree whose lists are all there. A fresh root goes into the spare slot; 64 stands for no slot.
+pub fn normalize_with_report(t: TileTree, spare: u64) -> Repairing
+    requires { ⌜ anyOf overSlot (t .slots) ≡ Bool.false ⌝ }
+    ensures { λ r. ⌜ Normalizes t spare r ⌝ }
+{
+    let slots = t.slots;
+    slots::sized(slots);
+    let mut heads = [[0u64; 8]; 64];
+    let mut ids = [[0u64; 16]; 64];
+    let mut shares = [[0.0f64; 16]; 64];
+    let mut minima = [[0.0f64; 16]; 64];
+    unpack::unpack(slots, &mut heads, &mut ids, &mut shares, &mut minima);
+    settle(t, spare, &mut heads, &mut ids, &mut shares, &mut minima)
 }
 
 // Repairs any arena. A list given too long is refused before anything else.
@@ -165,25 +181,60 @@ pub fn repair(t: TileTree) -> Repairing
     ensures { λ r. ⌜ (repaired r ≡ Rule.repair (view t)) × ((e : Refusal) → r .answer ≡ Answers.Refused e → r .tree ≡ t) ⌝ }
 {
     let slots = t.slots;
-    lone::sized(slots);
-    if columns::over(slots) {
+    slots::sized(slots);
+    let mut heads = [[0u64; 8]; 64];
+    let mut ids = [[0u64; 16]; 64];
+    let mut shares = [[0.0f64; 16]; 64];
+    let mut minima = [[0.0f64; 16]; 64];
+    unpack::unpack(slots, &mut heads, &mut ids, &mut shares, &mut minima);
+    if unpack::heads_over(&heads) {
         return refused(t, Refusal::TooWide);
     }
-    let spare = lone::first_empty(slots);
-    normalize_with_report(t, spare)
+    let spare = sweep::first_empty(&heads);
+    settle(t, spare, &mut heads, &mut ids, &mut shares, &mut minima)
 }
 
-// Accepted, and nothing was done.
-fn is_untouched(r: Repairing) -> bool
-    ensures { λ b. ⌜ b ≡ (isAccepted (r .answer) && isNone (reported (r .actions))) ⌝ }
+// Whether the walk of a tree's columns keeps the root, notes nothing and leaves no occupied slot out.
+fn is_still(
+    root: u64,
+    heads: &mut [[u64; 8]; 64],
+    ids: &mut [[u64; 16]; 64],
+    shares: &mut [[f64; 16]; 64],
+    minima: &mut [[f64; 16]; 64],
+) -> bool
+    requires { ⌜ (length (now heads) ≡ 64) × (length (now ids) ≡ 64) × (length (now shares) ≡ 64) × (length (now minima) ≡ 64) ⌝ }
+    ensures { λ r. ⌜ ((t : TileTree) → t .root .slot ≡ root → Columned t (now (heads .entry)) (now (ids .entry)) (now (shares .entry)) (now (minima .entry)) → r ≡ isStill (Rule.repair (view t))) ⌝ }
 {
-    let answer = r.answer;
-    let actions = r.actions;
-    let at = actions.at;
-    full(at);
-    match answer {
-        Answer::Accepted => actions.len == 0,
-        Answer::Refused(_) => false,
+    if unpack::heads_over(heads) {
+        return false;
+    }
+    let mut claimed = [false; 64];
+    let mut seen = [0u64; 1024];
+    let mut acts = [[0u64; 3]; 1300];
+    let w = nodes::normalize_node(
+        heads,
+        ids,
+        shares,
+        minima,
+        &mut claimed,
+        &mut seen,
+        &mut acts,
+        Counts { seen: 0, acts: 0 },
+        root,
+    );
+    actions::sized(&acts);
+    let c = w.counts;
+    let kept = w.kept;
+    match kept {
+        Kept::At(_) => {
+            if c.acts == 0 {
+                sweep::none_lost(heads, &claimed)
+            } else {
+                false
+            }
+        }
+        Kept::Gone => false,
+        Kept::Wide => false,
     }
 }
 
@@ -192,9 +243,14 @@ pub fn is_sound(t: TileTree) -> bool
     ensures { λ r. ⌜ r ≡ sound (view t) ⌝ }
 {
     let slots = t.slots;
-    lone::sized(slots);
-    let r = repair(t);
-    if is_untouched(r) {
+    slots::sized(slots);
+    let top = t.root;
+    let mut heads = [[0u64; 8]; 64];
+    let mut ids = [[0u64; 16]; 64];
+    let mut shares = [[0.0f64; 16]; 64];
+    let mut minima = [[0.0f64; 16]; 64];
+    unpack::unpack(slots, &mut heads, &mut ids, &mut shares, &mut minima);
+    if is_still(top.slot, &mut heads, &mut ids, &mut shares, &mut minima) {
         return true;
     }
     lone::lone_empty_root(t)

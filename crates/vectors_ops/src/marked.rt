@@ -1,8 +1,8 @@
 // Cases made by hand: the marked examples E7 to E10 of document 01, and readings of it that are easy to get wrong.
+use columns::pack;
 use lists::reals;
 use lists::tiles;
 use nodes::slots;
-use repair::columns;
 use rules::model::Axis;
 use rules::model::Kind;
 use rules::model::Placement;
@@ -20,7 +20,7 @@ ghost use Prim.Native.Nat.{_+_, _≤_};
 // ---- trees
 
 fn blank(revision: u64) -> TileTree {
-    let none = columns::bare_slot(Kind::Empty);
+    let none = pack::bare_slot(Kind::Empty);
     let root = TileId { slot: 0 };
     TileTree {
         root,
@@ -46,12 +46,12 @@ fn with_pane(t: TileTree, at: u64, pane: u64) -> TileTree {
 }
 
 fn with_none(t: TileTree, at: u64) -> TileTree {
-    let s = columns::bare_slot(Kind::Empty);
+    let s = pack::bare_slot(Kind::Empty);
     with(t, at, s)
 }
 
 fn with_split(t: TileTree, at: u64, axis: Axis, children: Tiles, shares: Reals) -> TileTree {
-    let mut s = columns::bare_slot(Kind::Split(axis));
+    let mut s = pack::bare_slot(Kind::Split(axis));
     s.children = children;
     s.shares = shares;
     with(t, at, s)
@@ -313,7 +313,7 @@ fn wide_after_repair() -> bool {
 // The last pane goes: an empty Hidden group in the lowest slot that was empty.
 fn last_pane() -> bool {
     let t = with_pane(blank(7), 0, 1);
-    let s = columns::bare_slot(Kind::Tabs(TabBarPlacement::Hidden));
+    let s = pack::bare_slot(Kind::Tabs(TabBarPlacement::Hidden));
     let wanted = at_revision(with_root(with(blank(7), 1, s), 1), 8);
     let op = TileOp::ClosePane { pane: 1 };
     gives(t, op, wanted)
@@ -331,7 +331,7 @@ fn readings() -> u64
 // ---- the lone empty root
 
 fn lone() -> TileTree {
-    let s = columns::bare_slot(Kind::Tabs(TabBarPlacement::Hidden));
+    let s = pack::bare_slot(Kind::Tabs(TabBarPlacement::Hidden));
     with(blank(7), 0, s)
 }
 

@@ -1,7 +1,7 @@
 // The stored repairs (docs/VECTORS.md), put to the library and compared bit for bit.
+use columns::Report;
 use libc::STDOUT_FILENO;
 use repair::Repairing;
-use repair::Report;
 use rules::model::RepairAction;
 use rules::model::TileTree;
 use wire::threes::Numbers;

@@ -11,7 +11,7 @@ use Rattle.rules.specs.Minima.{compactConstraints}
 use Rattle.rules.specs.Insert.{dividedShares}
 use Rattle.lists.specs.Build.{exactly-is}
 use Rattle.util.specs.Entries.{length-aligned}
-use Rattle.repair.proofs.SplitLaws.{repaired-length}
+use Rattle.normalize.proofs.SplitLaws.{repaired-length}
 use Rattle.nodes.specs.Parts.{besideOf}
 use Rattle.nodes.proofs.SplitLaws.{index-within, inserted-is}
 use borrow.Author.Needs.{needs}

@@ -1,0 +1,4 @@
+-- What the contracts of a frame by value say beside the rules.
+pub mod Lists
+pub mod Frames
+pub mod Unique

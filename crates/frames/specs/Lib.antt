@@ -1,0 +1,10 @@
+pub mod Plain
+pub mod Fits
+pub mod Counted
+pub mod Order
+pub mod Nesting
+pub mod Splitwise
+pub mod Sizes
+pub mod Splits
+pub mod Demand
+pub mod Accepted

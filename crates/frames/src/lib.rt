@@ -1,0 +1,1 @@
+// Theorems about the rules of layout, in specs/. There is no code here.

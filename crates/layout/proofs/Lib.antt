@@ -1,0 +1,5 @@
+pub mod Laws
+pub mod TileLaws
+pub mod ReadLaws
+pub mod SoundLaws
+pub mod WholeLaws

@@ -1,0 +1,18 @@
+// The frame: the Rust's layout, layout_tile, layout_tabs and layout_split (tree.rs).
+// The walk reads the arena as columns (see the crate columns) and writes one stream of items, each five numbers and a rectangle, in the order in which
+// layout_tile makes them. The lists of a frame are the items of a kind, in that order.
+use rules::refusal::Answer;
+
+pub mod input;
+pub mod splits;
+pub mod stream;
+pub mod tabs;
+pub mod tiles;
+pub mod whole;
+
+// What a layout over lent arrays answers: how many entries of them are in use, 0 if refused.
+pub struct LaidOut {
+    pub answer: Answer,
+    pub revision: u64,
+    pub len: usize,
+}

@@ -1,0 +1,5 @@
+pub mod Work
+pub mod Walked
+pub mod Steps
+pub mod Splits
+pub mod Opens
