@@ -51,7 +51,7 @@ fn tiles_of(row: [u64; 16]) -> [TileId; 16]
 }
 
 // An empty slot or a pane: no list is in use.
-fn bare_slot(kind: Kind) -> Slot
+pub fn bare_slot(kind: Kind) -> Slot
     ensures { λ r. ⌜ r .kind ≡ kind ⌝ }
 {
     let none = TileId { slot: 0 };

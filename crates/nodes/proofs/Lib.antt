@@ -1,0 +1,4 @@
+pub mod SlotLaws
+pub mod FindLaws
+pub mod SplitLaws
+pub mod GroupLaws

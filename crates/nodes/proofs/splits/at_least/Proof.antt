@@ -1,0 +1,17 @@
+-- `nodes::splits::at_least` meets its contract: the number written in the code is the rule's. Assumes nothing.
+use mathlib.Core.Path.{_≡_, refl, sym, ap, subst, _∙_}
+use lib.Ieee.{Float}
+use Rattle.rules.specs.Numbers.{larger}
+use Rattle.nodes.proofs.SplitLaws.{a-hundredth}
+use borrow.Author.Needs.{needs}
+use Rattle.nodes.proofs.splits.at_least.Statement.{statement}
+use Rattle.nodes.proofs.splits.at_least.Tie as tie
+
+larger-requires : tie.Need-larger-requires
+larger-requires c κs = search needs
+
+returns : tie.Need-returns
+returns c = c .larger .ensures ∙ ap (larger (c .before .args .x)) a-hundredth
+
+pub at-least-spec : {M : Type 1} → statement M
+at-least-spec = tie.close (tie.spec larger-requires returns)

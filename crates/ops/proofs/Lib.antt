@@ -1,0 +1,4 @@
+pub mod FinishLaws
+pub mod NearLaws
+pub mod OpLaws
+pub mod WholeLaws

@@ -1,0 +1,36 @@
+-- `ops::near::same_axis_parent` goes by what holds the target. Assumes nothing.
+use mathlib.Core.Path.{_≡_, refl, sym, ap, subst, _∙_}
+use mathlib.Core.List.{List, map}
+use Rattle.rules.specs.Tree.{viewSlot}
+use Rattle.rules.specs.Insert.{hasAxis, sameAxisParent}
+use Rattle.nodes.specs.Parts.{holderOf}
+use Rattle.nodes.specs.declared.Holder.{Holder}
+use borrow.Author.Needs.{needs}
+use Rattle.ops.proofs.near.same_axis_parent.Statement.{statement}
+use Rattle.ops.proofs.near.same_axis_parent.Tie as tie
+
+enum-told : tie.Need-enum-told
+enum-told c = search needs
+
+enum-known-parent : tie.Need-enum-known-parent
+enum-known-parent c = search needs
+
+get-node-requires : tie.Need-get-node-requires
+get-node-requires c κs = search needs
+
+has-axis-requires : tie.Need-has-axis-requires
+has-axis-requires c κs = search needs
+
+returns : tie.Need-returns
+returns c = search needs
+
+returns-2 : tie.Need-returns-2
+returns-2 c =
+    let p = c .before .before .before in
+    let x = p .before .before .args in
+    c .has-axis .ensures ∙ ap (hasAxis (x .axis)) (c .before .get-node .ensures .0) ∙ ap (λ (h : Holder). sameAxisParent (x .axis) (holderOf h) (map viewSlot (x .slots))) (sym (p .parent .given .1))
+
+pub same-axis-parent-spec : {M : Type 1} → statement M
+same-axis-parent-spec =
+    tie.close
+    (tie.spec enum-told enum-known-parent get-node-requires has-axis-requires returns returns-2)

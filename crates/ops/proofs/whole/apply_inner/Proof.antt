@@ -1,0 +1,94 @@
+-- `ops::whole::apply_inner` goes by the operation. Assumes nothing.
+use mathlib.Core.Path.{_≡_, refl, sym, ap, subst, _∙_}
+use Rattle.rules.specs.Tree.{view}
+use Rattle.rules.specs.Operations.{applyInner}
+use Rattle.rules.specs.declared.operation.TileOp.{TileOp}
+use Rattle.ops.specs.Steps.{Does}
+use borrow.Author.Needs.{needs}
+use Rattle.ops.proofs.whole.apply_inner.Statement.{statement}
+use Rattle.ops.proofs.whole.apply_inner.Tie as tie
+
+enum-known-op : tie.Need-enum-known-op
+enum-known-op c = search needs
+
+activate-pane-requires : tie.Need-activate-pane-requires
+activate-pane-requires c κs = search needs
+
+enum-known-op-2 : tie.Need-enum-known-op-2
+enum-known-op-2 c = search needs
+
+close-pane-requires : tie.Need-close-pane-requires
+close-pane-requires c κs = search needs
+
+enum-known-op-3 : tie.Need-enum-known-op-3
+enum-known-op-3 c = search needs
+
+split-pane-requires : tie.Need-split-pane-requires
+split-pane-requires c κs = search needs
+
+enum-known-op-4 : tie.Need-enum-known-op-4
+enum-known-op-4 c = search needs
+
+move-pane-requires : tie.Need-move-pane-requires
+move-pane-requires c κs = search needs
+
+enum-known-op-5 : tie.Need-enum-known-op-5
+enum-known-op-5 c = search needs
+
+reorder-tab-requires : tie.Need-reorder-tab-requires
+reorder-tab-requires c κs = search needs
+
+returns : tie.Need-returns
+unfolding applyInner
+returns c =
+    let k = c .before .before in
+    let x = k .before .before .args in
+    subst (λ (o : TileOp). Does (x .t) (applyInner (view (x .t)) o) (c .activate-pane .result)) (sym (k .op .given .1)) (c .activate-pane .ensures)
+
+returns-2 : tie.Need-returns-2
+unfolding applyInner
+returns-2 c =
+    let k = c .before .before in
+    let x = k .before .before .args in
+    subst (λ (o : TileOp). Does (x .t) (applyInner (view (x .t)) o) (c .close-pane .result)) (sym (k .op2 .given .1)) (c .close-pane .ensures)
+
+returns-3 : tie.Need-returns-3
+unfolding applyInner
+returns-3 c =
+    let k = c .before .before in
+    let x = k .before .before .args in
+    subst (λ (o : TileOp). Does (x .t) (applyInner (view (x .t)) o) (c .split-pane .result)) (sym (k .op3 .given .1)) (c .split-pane .ensures)
+
+returns-4 : tie.Need-returns-4
+unfolding applyInner
+returns-4 c =
+    let k = c .before .before in
+    let x = k .before .before .args in
+    subst (λ (o : TileOp). Does (x .t) (applyInner (view (x .t)) o) (c .move-pane .result)) (sym (k .op4 .given .1)) (c .move-pane .ensures)
+
+returns-5 : tie.Need-returns-5
+unfolding applyInner
+returns-5 c =
+    let k = c .before .before in
+    let x = k .before .before .args in
+    subst (λ (o : TileOp). Does (x .t) (applyInner (view (x .t)) o) (c .reorder-tab .result)) (sym (k .op5 .given .1)) (c .reorder-tab .ensures)
+
+pub apply-inner-spec : {M : Type 1} → statement M
+apply-inner-spec =
+    tie.close
+    (tie.spec
+    enum-known-op
+    activate-pane-requires
+    enum-known-op-2
+    close-pane-requires
+    enum-known-op-3
+    split-pane-requires
+    enum-known-op-4
+    move-pane-requires
+    enum-known-op-5
+    reorder-tab-requires
+    returns
+    returns-2
+    returns-3
+    returns-4
+    returns-5)
