@@ -16,22 +16,27 @@ use Rattle.rules.specs.Numbers.{zero-f, plus, minimumOk}
 use Rattle.rules.specs.Tree.{Node, empty, pane, tabs, split, Arena, wideNode, readingFrom, Member}
 use Rattle.rules.specs.Sound.{sound}
 use Rattle.rules.specs.Tabs.{majorSize}
-use Rattle.rules.specs.Frame.{Item, focusItem, paneItem, barItem, tabItem, childItem, handleItem, limit, minus-limit, coordinateOk, thicknessOk, boundsOk, sizeOk, inputOk, plusInput, childTotal, childMinima, splitLengths, childOf, gather, layoutItems, layoutBy, layoutInputBy, layout, Frame, frameOf}
+use Rattle.rules.specs.Frame.{Item, focusItem, paneItem, barItem, tabItem, childItem, handleItem, limit, minus-limit, coordinateOk, thicknessOk, boundsOk, sizeOk, inputOk, plusInput, childTotal, childMinima, splitLengths, childOf, gather, layoutItems, layoutBy, layoutInputBy, layout, Frame, frameOf, paneOf, barOf, tabOf, handleOf}
 use Rattle.rules.specs.declared.model.TileId.{TileId}
 use Rattle.rules.specs.declared.refusal.Answer.the-variants.{Accepted, Refused}
 use Rattle.rules.specs.declared.refusal.Refusal.{Refusal}
 use Rattle.rules.specs.declared.model.Axis.{Axis}
 use Rattle.rules.specs.declared.model.Axis.the-variants.{Horizontal, Vertical}
 use Rattle.rules.specs.declared.frame.LayoutInput.{LayoutInput}
+use Rattle.rules.specs.declared.frame.PaneFrame.{PaneFrame}
+use Rattle.rules.specs.declared.frame.TabBarFrame.{TabBarFrame}
+use Rattle.rules.specs.declared.frame.TabFrame.{TabFrame}
 use Rattle.rules.specs.declared.frame.SplitChildFrame.{SplitChildFrame}
+use Rattle.rules.specs.declared.frame.SplitHandleFrame.{SplitHandleFrame}
 use Rattle.rules.specs.Solver.{sumOf}
-use Rattle.forest.specs.Lists.{member-all, All}
+use Rattle.forest.specs.Lists.{member-all, All, all-append}
 use Rattle.forest.specs.Quiet.{plainNode, plainNodes}
 use Rattle.forest.specs.Settled.{Lone}
 use Rattle.forest.specs.SoundCases.{Plain, sound-cases}
 use Rattle.number.specs.Arithmetic.{zero-fits}
 use Rattle.frames.specs.Fits.{narrow-at}
 use Rattle.frames.specs.Sizes.{Small, small-more, small-finite, small-zero}
+use Rattle.frames.specs.Finite.{Finite}
 use Rattle.frames.specs.Splits.{Bounded, Sane}
 use Rattle.solver.specs.Demand.{Over, no-pairs, pair}
 use Rattle.number.specs.Each.{all-at}
@@ -136,7 +141,7 @@ module _ (i : LayoutInput) (ok : T (inputOk i)) where
   unfolding plusInput
   input-sane R =
       let s = i .«min_pane_size» in
-      record { minima = go; handle = plus-small (2 ^ 20) (i .«split_handle_thickness») (thickness-small (i .«split_handle_thickness») (parts .2)) }
+      record { minima = go; handle = plus-small (2 ^ 20) (i .«split_handle_thickness») (thickness-small (i .«split_handle_thickness») (parts .2)); bar = plus-small (2 ^ 20) (i .«tab_bar_thickness») (thickness-small (i .«tab_bar_thickness») (parts .1)) }
     where
       go : (a : Axis) → T (fits binary64 (majorSize (plusInput i .«min_pane_size») a)) × T (minimumOk (majorSize (plusInput i .«min_pane_size») a))
       go Horizontal = (plus-fits (i .«min_pane_size» .width) (R .wide), thickness-ok (i .«min_pane_size» .width) (and-l (thicknessOk (i .«min_pane_size» .width)) (thicknessOk (i .«min_pane_size» .height)) (parts .3)))
@@ -170,7 +175,7 @@ children-fair ns i (focusItem p ∷ xs) f = children-fair ns i xs (f .1)
 children-fair ns i (paneItem x ∷ xs) f = children-fair ns i xs (f .1)
 children-fair ns i (barItem x ∷ xs) f = children-fair ns i xs (f .1)
 children-fair ns i (tabItem x ∷ xs) f = children-fair ns i xs (f .1)
-children-fair ns i (childItem x ∷ xs) f = (f .0, children-fair ns i xs (f .1))
+children-fair ns i (childItem x ∷ xs) f = (f .0 .1, children-fair ns i xs (f .1))
 children-fair ns i (handleItem x ∷ xs) f = children-fair ns i xs (f .1)
 
 -- the numbers of an arena are binary64's
@@ -192,6 +197,11 @@ laid-is a i e = go (sound a) (inputOk i) refl refl e
         told : {x : Refusal} → Refused x ≡ Accepted → ⊥
         told z = let w : _≡_ {A = ℕ} 0 1 = cc in omega arith
 
+-- every item of an accepted layout is finite, and a child's entry is fair
+pub items-fair : (a : Arena) (i : LayoutInput) → length (a .nodes) ≡ 64 → Reals64 a → InputReal i → sound a ≡ true → T (inputOk i) → All (FairItem (a .nodes) (plusInput i)) (layoutItems a (plusInput i))
+items-fair a i size R N s ok =
+    tile-fair (a .nodes) (plusInput i) (input-sane i ok N) R (sound-narrow a size s) 64 24 (omega arith) (omega arith) (a .root) (plusInput i .bounds) (input-bounded i ok)
+
 -- DEMAND 3 of an accepted layout: each entry of the split children is a child of its split, in a rectangle made of its solved length, and the split's
 -- solved lengths lie between zero and what its handles leave, hold the minima where their sum is below it, and took no more passes than it has children
 pub frame-fair : (a : Arena) (i : LayoutInput) → length (a .nodes) ≡ 64 → Reals64 a → InputReal i → layout a i .answer ≡ Accepted
@@ -199,8 +209,7 @@ pub frame-fair : (a : Arena) (i : LayoutInput) → length (a .nodes) ≡ 64 → 
 frame-fair a i size R N e =
     let (s, ok, f) = laid-is a i e in
     subst (λ (x : Frame). All (Fair (a .nodes) (plusInput i)) (x .splitChildren)) (sym f)
-    (children-fair (a .nodes) (plusInput i) (layoutItems a (plusInput i))
-    (tile-fair (a .nodes) (plusInput i) (input-sane i ok N) R (sound-narrow a size s) 64 24 (omega arith) (omega arith) (a .root) (plusInput i .bounds) (input-bounded i ok)))
+    (children-fair (a .nodes) (plusInput i) (layoutItems a (plusInput i)) (items-fair a i size R N s ok))
 
 -- ---- the same in the order's words
 
@@ -248,3 +257,75 @@ demand-3 a i size R N e u m j h =
     let (x, p, q, r) = every-child a (plusInput i) size s u m j h in
     let p′ = subst (λ (y : Frame). Member x (y .splitChildren)) (sym f) p in
     (x, p′, q, r, member-all (Fair (a .nodes) (plusInput i)) x (layout a i .frame .splitChildren) p′ (frame-fair a i size R N e))
+
+-- ---- every rectangle of an accepted layout has finite edges
+
+pub record AllFinite (f : Frame) : Type 0 where
+  pub panes : All (λ (x : PaneFrame). Finite (x .rect)) (f .panes)
+  pub tab-bars : All (λ (x : TabBarFrame). Finite (x .rect)) (f .tabBars)
+  pub tabs : All (λ (x : TabFrame). Finite (x .rect)) (f .tabs)
+  pub split-children : All (λ (x : SplitChildFrame). Finite (x .rect)) (f .splitChildren)
+  pub split-handles : All (λ (x : SplitHandleFrame). Finite (x .rect)) (f .splitHandles)
+
+-- what each item gives to a list is finite
+gathered : {A : Type 0} (P : A → Type 0) (g : Item → List A) (Q : Item → Type 0) → ((x : Item) → Q x → All P (g x)) → (xs : List Item) → All Q xs → All P (gather g xs)
+unfolding gather
+gathered P g Q h [] f = tt
+gathered P g Q h (x ∷ xs) f = all-append P (g x) (gather g xs) (h x (f .0)) (gathered P g Q h xs (f .1))
+
+module _ (ns : List Node) (i : LayoutInput) where
+  of-pane : (x : Item) → FairItem ns i x → All (λ (y : PaneFrame). Finite (y .rect)) (paneOf x)
+  of-pane (focusItem p) f = tt
+  of-pane (paneItem y) f = (f, tt)
+  of-pane (barItem y) f = tt
+  of-pane (tabItem y) f = tt
+  of-pane (childItem y) f = tt
+  of-pane (handleItem y) f = tt
+
+  of-bar : (x : Item) → FairItem ns i x → All (λ (y : TabBarFrame). Finite (y .rect)) (barOf x)
+  of-bar (focusItem p) f = tt
+  of-bar (paneItem y) f = tt
+  of-bar (barItem y) f = (f, tt)
+  of-bar (tabItem y) f = tt
+  of-bar (childItem y) f = tt
+  of-bar (handleItem y) f = tt
+
+  of-tab : (x : Item) → FairItem ns i x → All (λ (y : TabFrame). Finite (y .rect)) (tabOf x)
+  of-tab (focusItem p) f = tt
+  of-tab (paneItem y) f = tt
+  of-tab (barItem y) f = tt
+  of-tab (tabItem y) f = (f, tt)
+  of-tab (childItem y) f = tt
+  of-tab (handleItem y) f = tt
+
+  of-child : (x : Item) → FairItem ns i x → All (λ (y : SplitChildFrame). Finite (y .rect)) (childOf x)
+  of-child (focusItem p) f = tt
+  of-child (paneItem y) f = tt
+  of-child (barItem y) f = tt
+  of-child (tabItem y) f = tt
+  of-child (childItem y) f = (f .0, tt)
+  of-child (handleItem y) f = tt
+
+  of-handle : (x : Item) → FairItem ns i x → All (λ (y : SplitHandleFrame). Finite (y .rect)) (handleOf x)
+  of-handle (focusItem p) f = tt
+  of-handle (paneItem y) f = tt
+  of-handle (barItem y) f = tt
+  of-handle (tabItem y) f = tt
+  of-handle (childItem y) f = tt
+  of-handle (handleItem y) f = (f, tt)
+
+pub frame-finite : (a : Arena) (i : LayoutInput) → length (a .nodes) ≡ 64 → Reals64 a → InputReal i → layout a i .answer ≡ Accepted → AllFinite (layout a i .frame)
+frame-finite a i size R N e =
+    let (s, ok, f) = laid-is a i e in
+    let F = items-fair a i size R N s ok in
+    let ns = a .nodes in
+    let j = plusInput i in
+    let xs = layoutItems a j in
+    subst AllFinite (sym f)
+    (record {
+      panes = gathered (λ (x : PaneFrame). Finite (x .rect)) paneOf (FairItem ns j) (of-pane ns j) xs F;
+      tab-bars = gathered (λ (x : TabBarFrame). Finite (x .rect)) barOf (FairItem ns j) (of-bar ns j) xs F;
+      tabs = gathered (λ (x : TabFrame). Finite (x .rect)) tabOf (FairItem ns j) (of-tab ns j) xs F;
+      split-children = gathered (λ (x : SplitChildFrame). Finite (x .rect)) childOf (FairItem ns j) (of-child ns j) xs F;
+      split-handles = gathered (λ (x : SplitHandleFrame). Finite (x .rect)) handleOf (FairItem ns j) (of-handle ns j) xs F;
+    })

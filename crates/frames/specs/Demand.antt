@@ -1,4 +1,5 @@
 -- Demand 3 over a frame's own split children: each stands in a rectangle that its split's solved length makes, and the split's lengths meet the demand.
+-- And every rectangle of the frame has finite edges.
 -- Assumes nothing.
 use mathlib.Core.Path.{_≡_, refl, sym, ap, subst, _∙_}
 use mathlib.Core.Bool.{Bool, true, false, _||_, or-assoc}
@@ -29,6 +30,7 @@ use Rattle.number.specs.Order.{nonneg}
 use Rattle.solver.specs.Demand.{Meets}
 use Rattle.frames.specs.Fits.{or-left}
 use Rattle.frames.specs.Sizes.{Small, held, small-more, small-between, add-small}
+use Rattle.frames.specs.Finite.{Finite, tabs-finite, bar-bounded}
 use Rattle.frames.specs.Splits.{Bounded, Sane, total-small, total-good, split-meets}
 
 -- ---- what is shown of a child's entry in the frame
@@ -50,13 +52,14 @@ pub record Fair (ns : List Node) (i : LayoutInput) (x : SplitChildFrame) : Type 
   -- and the solved lengths meet demand 3
   pub meets : Meets (childTotal axis (length children) within i) (childMinima axis (length children) minima i) (splitLengths axis (length children) shares minima within i)
 
+-- an item is finite, and a child's entry is fair
 abbrev pub FairItem : List Node → LayoutInput → Item → Type 0
 FairItem ns i (focusItem p) = Unit {0}
-FairItem ns i (paneItem f) = Unit {0}
-FairItem ns i (barItem f) = Unit {0}
-FairItem ns i (tabItem f) = Unit {0}
-FairItem ns i (childItem f) = Fair ns i f
-FairItem ns i (handleItem f) = Unit {0}
+FairItem ns i (paneItem f) = Finite (f .rect)
+FairItem ns i (barItem f) = Finite (f .rect)
+FairItem ns i (tabItem f) = Finite (f .rect)
+FairItem ns i (childItem f) = Finite (f .rect) × Fair ns i f
+FairItem ns i (handleItem f) = Finite (f .rect)
 
 -- a node's numbers are binary64's
 abbrev pub Real64 : Node → Type 0
@@ -74,36 +77,38 @@ drop-head (x ∷ xs) zero d c cs e = (ap (λ l. getD l 0 d) e, ap (drop 1) e, om
 drop-head (x ∷ xs) (suc j) d c cs e = let (p, q, r) = drop-head xs j d c cs e in (p, q, omega (arith, r))
 
 module _ (ns : List Node) (i : LayoutInput) where
-  -- ---- what has no child's entry
+  -- ---- a group
 
-  tabs-fair : (g : TileId) (active j : ℕ) (ps : List ℕ) (rs : List Rect) → All (FairItem ns i) (tabsFrom g active j ps rs)
+  tabs-fair : (g : TileId) (active j : ℕ) (ps : List ℕ) (rs : List Rect) → All Finite rs → All (FairItem ns i) (tabsFrom g active j ps rs)
   unfolding tabsFrom
-  tabs-fair g active j [] rs = tt
-  tabs-fair g active j (p ∷ ps) [] = tt
-  tabs-fair g active j (p ∷ ps) (r ∷ rs) = (tt, tabs-fair g active (suc j) ps rs)
+  tabs-fair g active j [] rs f = tt
+  tabs-fair g active j (p ∷ ps) [] f = tt
+  tabs-fair g active j (p ∷ ps) (r ∷ rs) f = (f .0, tabs-fair g active (suc j) ps rs (f .1))
 
-  bars-fair : (b : Bool) (g : TileId) (p : TabBarPlacement) (r : Rect) (active : ℕ) (ps : List ℕ) → All (FairItem ns i) (barItems b g p r active ps)
-  bars-fair true g p r active ps = tt
-  bars-fair false g p r active ps = (tt, tabs-fair g active 0 ps (tabRects r p (length ps)))
+  bars-fair : (b : Bool) (g : TileId) (p : TabBarPlacement) (r : Rect) (active : ℕ) (ps : List ℕ) → Finite r → All Finite (tabRects r p (length ps)) → All (FairItem ns i) (barItems b g p r active ps)
+  bars-fair true g p r active ps f t = tt
+  bars-fair false g p r active ps f t = (f, tabs-fair g active 0 ps (tabRects r p (length ps)) t)
 
   focus-fair : (ps : List ℕ) → All (FairItem ns i) (focusItems ps)
   focus-fair [] = tt
   focus-fair (p ∷ ps) = (tt, focus-fair ps)
 
-  shown-fair : (g : TileId) (b : TabBarPlacement) (a : ℕ) (ps : List ℕ) (r : Rect) → All (FairItem ns i) (layoutTabsBy g b a ps r i)
-  shown-fair g b a [] r = tt
-  shown-fair g b a (p ∷ ps) r =
+  shown-fair : (k : ℕ) → k ≤ 880 → (g : TileId) (b : TabBarPlacement) (a : ℕ) (ps : List ℕ) (r : Rect) → length ps ≤ 16 → Bounded (1 * 2 ^ k) r → Small (1 * 2 ^ k) (i .«tab_bar_thickness») → All (FairItem ns i) (layoutTabsBy g b a ps r i)
+  shown-fair k near g b a [] r few q t = tt
+  shown-fair k near g b a (p ∷ ps) r few q t =
       let s = splitTabBar r b (i .«tab_bar_thickness») in
       let n = min a (length ps) in
-      all-append (FairItem ns i) (barItems (samePlacement b Hidden) g b (s .bar) n (p ∷ ps)) (aPane (getD (p ∷ ps) n 0) g (s .pane) ∷ []) (bars-fair (samePlacement b Hidden) g b (s .bar) n (p ∷ ps)) (tt, tt)
+      let (u, v) = bar-bounded k near r b (i .«tab_bar_thickness») q t in
+      all-append (FairItem ns i) (barItems (samePlacement b Hidden) g b (s .bar) n (p ∷ ps)) (aPane (getD (p ∷ ps) n 0) g (s .pane) ∷ [])
+      (bars-fair (samePlacement b Hidden) g b (s .bar) n (p ∷ ps) (3 * 2 ^ k, u) (tabs-finite k near b (s .bar) (length (p ∷ ps)) (omega arith) few u)) ((3 * 2 ^ k, v), tt)
 
-  group-fair : (g : TileId) (b : TabBarPlacement) (a : ℕ) (ps : List ℕ) (r : Rect) → All (FairItem ns i) (layoutTabs g b a ps r i)
+  group-fair : (k : ℕ) → k ≤ 880 → (g : TileId) (b : TabBarPlacement) (a : ℕ) (ps : List ℕ) (r : Rect) → length ps ≤ 16 → Bounded (1 * 2 ^ k) r → Small (1 * 2 ^ k) (i .«tab_bar_thickness») → All (FairItem ns i) (layoutTabs g b a ps r i)
   unfolding layoutTabs
-  group-fair g b a ps r = all-append (FairItem ns i) (focusItems ps) (layoutTabsBy g b a ps r i) (focus-fair ps) (shown-fair g b a ps r)
+  group-fair k near g b a ps r few q t = all-append (FairItem ns i) (focusItems ps) (layoutTabsBy g b a ps r i) (focus-fair ps) (shown-fair k near g b a ps r few q t)
 
-  handle-fair : (b : Bool) (s : TileId) (a : Axis) (r : Rect) (h : Float) (j : ℕ) (at : Float) → All (FairItem ns i) (handleBy b s a r h j at)
-  handle-fair true s a r h j at = (tt, tt)
-  handle-fair false s a r h j at = tt
+  handle-fair : (b : Bool) (s : TileId) (a : Axis) (r : Rect) (h : Float) (j : ℕ) (at : Float) → Finite (alongRect a r at h) → All (FairItem ns i) (handleBy b s a r h j at)
+  handle-fair true s a r h j at f = (f, tt)
+  handle-fair false s a r h j at f = tt
 
   -- ---- a split's children
 
@@ -134,7 +139,7 @@ module _ (ns : List Node) (i : LayoutInput) where
       go Horizontal = record { left = near-end; top = edge (r .y0) (b .top); right = far-end; bottom = edge (r .y1) (b .bottom) }
       go Vertical = record { left = edge (r .x0) (b .left); top = near-end; right = edge (r .x1) (b .right); bottom = far-end }
 
-  module _ (k : ℕ) (near : k ≤ 882) (s : TileId) (a : Axis) (children : List TileId) (ss ms : List Float) (is : nodeAt ns s ≡ split a children ss ms) (few : length children ≤ 16)
+  module _ (k : ℕ) (near : k ≤ 880) (s : TileId) (a : Axis) (children : List TileId) (ss ms : List Float) (is : nodeAt ns s ≡ split a children ss ms) (few : length children ≤ 16)
       (r : Rect) (inside : Bounded (1 * 2 ^ k) r) (h : Float) (thin : Small (1 * 2 ^ (k + 2)) h)
       (M : Meets (childTotal a (length children) r i) (childMinima a (length children) ms i) (splitLengths a (length children) ss ms r i))
       (again : TileId → Rect → List Item) (under : (c : TileId) (q : Rect) → Bounded (1 * 2 ^ (k + 8)) q → All (FairItem ns i) (again c q)) where
@@ -154,11 +159,11 @@ module _ (ns : List Node) (i : LayoutInput) where
         let end = add-small (k + 2) (1 + j + j) 1 (held (1 + j + j + 1) (k + 2) (omega (arith, lt, few)) (omega (arith, near))) at l p b in
         let next = add-small (k + 2) (1 + j + j + 1) 1 (held (1 + j + j + 1 + 1) (k + 2) (omega (arith, lt, few)) (omega (arith, near))) (add binary64 at l) h end thin in
         let at′ = add binary64 (add binary64 at l) h in (
-          record { axis = a; children = children; shares = ss; minima = ms; within = r; is = is; counted = lt; child = sym ce; start = at; rect = ap (alongRect a r at) (sym le); meets = M },
+          ((1 * 2 ^ (k + 8), along-bounded k a r at l (1 + j + j) (omega (arith, lt, few)) (omega (arith, near)) inside p b), record { axis = a; children = children; shares = ss; minima = ms; within = r; is = is; counted = lt; child = sym ce; start = at; rect = ap (alongRect a r at) (sym le); meets = M }),
           all-append (FairItem ns i) (again c q) (handleBy (isMore cs) s a r h j (add binary64 at l) ++ layoutKids again s a r h (suc j) cs ls at′)
               (under c q (along-bounded k a r at l (1 + j + j) (omega (arith, lt, few)) (omega (arith, near)) inside p b))
               (all-append (FairItem ns i) (handleBy (isMore cs) s a r h j (add binary64 at l)) (layoutKids again s a r h (suc j) cs ls at′)
-              (handle-fair (isMore cs) s a r h j (add binary64 at l))
+              (handle-fair (isMore cs) s a r h j (add binary64 at l) (1 * 2 ^ (k + 8), along-bounded k a r (add binary64 at l) h (1 + j + j + 1) (omega (arith, lt, few)) (omega (arith, near)) inside end thin))
               (kids-fair (suc j) cs ls at′ cr lr bs
               (small-more ((1 + j + j + 1 + 1) * 2 ^ (k + 2)) ((1 + suc j + suc j) * 2 ^ (k + 2)) at′ (mul-le-mul-right (2 ^ (k + 2)) (let z : 1 + j + j + 1 + 1 ≤ 1 + suc j + suc j = omega arith in z)) next))),
         )
@@ -183,15 +188,17 @@ module _ (ns : List Node) (i : LayoutInput) where
     start-small k Horizontal r b = small-more (1 * 2 ^ k) (1 * 2 ^ (k + 2)) (r .x0) (grow k 2) (b .left)
     start-small k Vertical r b = small-more (1 * 2 ^ k) (1 * 2 ^ (k + 2)) (r .y0) (grow k 2) (b .top)
 
-    pub tile-fair : (f k : ℕ) → 24 ≤ k → k + 8 * f ≤ 882 → (t : TileId) (r : Rect) → Bounded (1 * 2 ^ k) r → All (FairItem ns i) (layoutTile f ns i t r)
+    pub tile-fair : (f k : ℕ) → 24 ≤ k → k + 8 * f ≤ 880 → (t : TileId) (r : Rect) → Bounded (1 * 2 ^ k) r → All (FairItem ns i) (layoutTile f ns i t r)
     unfolding layoutTile layoutSplit
     tile-fair zero k far near t r b = tt
     tile-fair (suc f) k far near t r b = go (λ c q u. tile-fair f (k + 8) (omega (arith, far)) (omega (arith, near)) c q u) (nodeAt ns t) refl
       where
         go : ((c : TileId) (q : Rect) → Bounded (1 * 2 ^ (k + 8)) q → All (FairItem ns i) (layoutTile f ns i c q)) → (n : Node) → nodeAt ns t ≡ n → All (FairItem ns i) (layoutNode (layoutTile f ns i) n t r i)
         go under empty e = tt
-        go under (pane p) e = (tt, (tt, tt))
-        go under (tabs x a ps) e = group-fair t x a ps r
+        go under (pane p) e = (tt, ((1 * 2 ^ k, b), tt))
+        go under (tabs x a ps) e =
+            group-fair k (omega (arith, near)) t x a ps r (ltb-false 16 (length ps) (ap wideNode (sym e) ∙ narrow (t .slot))) b
+            (small-more (2 ^ 20) (1 * 2 ^ k) (i .«tab_bar_thickness») (le-trans (pow-mono (let q : 20 ≤ k = omega (arith, far) in q)) (le-of-eq (sym (one-mul (2 ^ k))))) (sane .bar))
         go under (split a cs ss ms) e =
             let few : length cs ≤ 16 = few-children a cs ss ms (ap wideNode (sym e) ∙ narrow (t .slot)) in
             let (fs, fm) = subst Real64 e (real (t .slot)) in

@@ -6,6 +6,6 @@ pub mod Nesting
 pub mod Splitwise
 pub mod Sizes
 pub mod Splits
+pub mod Finite
 pub mod Demand
 pub mod Accepted
-pub mod Finite

@@ -111,10 +111,11 @@ pub record Bounded (b : ℕ) (r : Rect) : Type 0 where
   pub right : Small b (r .x1)
   pub bottom : Small b (r .y1)
 
--- the input, minus zero read as zero: minima that are good, and a handle that is not huge
+-- the input, minus zero read as zero: minima that are good, and thicknesses that are not huge
 pub record Sane (i : LayoutInput) : Type 0 where
   pub minima : (a : Axis) → T (fits binary64 (majorSize (i .«min_pane_size») a)) × T (minimumOk (majorSize (i .«min_pane_size») a))
   pub handle : Small (2 ^ 20) (i .«split_handle_thickness»)
+  pub bar : Small (2 ^ 20) (i .«tab_bar_thickness»)
 
 -- where 2 ^ k bounds the edges, 3 times that bounds the length
 module _ (k : ℕ) (far : 24 ≤ k) (near : k ≤ 890) (a : Axis) (n : ℕ) (few : n ≤ 16) (r : Rect) (i : LayoutInput) (inside : Bounded (1 * 2 ^ k) r) (sane : Sane i) where
