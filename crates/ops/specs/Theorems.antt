@@ -2,10 +2,10 @@
 -- Assumes nothing.
 use mathlib.Core.Path.{_≡_, refl, sym, ap, subst, _∙_}
 use mathlib.Core.Logic.{_⊎_, inl, inr}
-use mathlib.Core.Bool.{Bool, true, false, cond}
+use mathlib.Core.Bool.{Bool, true, false}
 use mathlib.Core.List.{List, [], _∷_}
 use mathlib.Core.Option.{Option, none, some}
-use Prim.Native.Nat.{ℕ, zero, suc, _≤_, _<_}
+use Prim.Native.Nat.{ℕ, zero, suc, _<_}
 use native.Mathlib.Omega.{arith}
 use lib.Dec.{ltb, leb, eqb}
 use lib.ListN.{length, getElem?, drop, length-set}
@@ -21,7 +21,6 @@ use Rattle.rules.specs.Operations as Rule
 use Rattle.rules.specs.Operations.{Change, Step, refuse, unchanged, changed, change, changeOnly, orElse, start, taken, whereIs, putNear, Applied, refused, accepted, normalBy, normalAs, last-revision, revisedBy, insertedBy, roomBy, finish, applyInner, applyBy, apply}
 use Rattle.rules.specs.declared.model.TileId.{TileId}
 use Rattle.rules.specs.declared.model.TileTree.{TileTree}
-use Rattle.rules.specs.declared.model.TabBarPlacement.{TabBarPlacement}
 use Rattle.rules.specs.declared.model.TabBarPlacement.the-variants.{Top}
 use Rattle.rules.specs.declared.model.Axis.{Axis}
 use Rattle.rules.specs.declared.model.Axis.the-variants.{Horizontal}
