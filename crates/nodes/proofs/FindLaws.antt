@@ -1,17 +1,17 @@
 -- Laws of the scans, one slot after another, and of what they find. Assumes nothing.
-use mathlib.Core.Path.{_≡_, refl, sym, ap, subst, _∙_}
+use mathlib.Core.Path.{_≡_, refl, sym, ap, _∙_}
 use mathlib.Core.Bool.{Bool, true, false}
-use mathlib.Core.List.{List, [], _∷_, map}
+use mathlib.Core.List.{List, [], map}
 use mathlib.Core.Option.{Option, none, some}
-use Prim.Native.Nat.{ℕ, zero, suc, _+_, _≤_, _<_}
+use Prim.Native.Nat.{ℕ, suc, _+_, _≤_, _<_}
 use native.Mathlib.Omega.{arith}
 use native.Mathlib.Numerals.{add-one}
 use lib.Dec.{eqb}
 use lib.ListN.{length, getD, drop, length-map, drop-of-length-le}
 use lib.Seq.{drop-cons}
 use Rattle.rules.specs.Lists.{positionFrom, position}
-use Rattle.rules.specs.Tree.{Node, empty, pane, tabs, split, tile, kidsOf, panesOf, sameTile, viewSlot}
-use Rattle.rules.specs.Target.{PaneLocation, nowhere, inTile, inTabs, tileHas, tabsHave, located, isSomewhere, Parent, parentBy}
+use Rattle.rules.specs.Tree.{Node, empty, pane, tabs, split, tile, kidsOf, sameTile, viewSlot}
+use Rattle.rules.specs.Target.{PaneLocation, nowhere, tileHas, tabsHave, located, isSomewhere, parentBy}
 use Rattle.rules.specs.declared.model.TileId.{TileId}
 use Rattle.rules.specs.declared.model.Slot.{Slot}
 use Rattle.forest.specs.Lists.{never}

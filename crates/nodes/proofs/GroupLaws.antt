@@ -1,19 +1,19 @@
 -- Laws of groups read and changed, over plain values. Assumes nothing.
 use mathlib.Core.Path.{_≡_, refl, sym, ap, subst, _∙_}
-use mathlib.Core.Bool.{Bool, true, false, _||_}
-use mathlib.Core.List.{List, [], _∷_, map}
+use mathlib.Core.Bool.{true, false, _||_}
+use mathlib.Core.List.{List, [], _∷_}
 use mathlib.Core.Option.{Option, none, some}
-use Prim.Native.Nat.{ℕ, zero, suc, _+_, _≤_, _<_, min}
+use Prim.Native.Nat.{ℕ, zero, suc, _≤_, _<_, min}
 use native.Mathlib.Omega.{arith}
-use native.Mathlib.Nat.{min-le-left, min-le-right}
-use borrow.Author.Tests.{le-ltb, lt-ltb, le-leb, lt-leb, leb-false, leb-true}
-use lib.Dec.{ltb, leb, eqb}
+use native.Mathlib.Nat.{min-le-right}
+use borrow.Author.Tests.{lt-ltb, leb-false, leb-true}
+use lib.Dec.{ltb}
 use lib.ListN.{length, getD, getElem?, take, length-take}
 use lib.Seq.{length-take-le}
-use Rattle.rules.specs.Lists.{insertAt, removeAt, position, wideList}
-use Rattle.rules.specs.Tree.{Node, empty, pane, tabs, split, ids, viewSlot, nodeOf, overBy, overSlot, panesOf, wideNode}
+use Rattle.rules.specs.Lists.{insertAt, removeAt}
+use Rattle.rules.specs.Tree.{tabs, ids, viewSlot, nodeOf, overBy, overSlot, panesOf, wideNode}
 use Rattle.rules.specs.Repair.{activeOf}
-use Rattle.rules.specs.Operations.{setActive, activeIs, clamped, tabbedIn, landing, keptActive, reordered}
+use Rattle.rules.specs.Operations.{setActive, clamped, tabbedIn, landing, keptActive, reordered}
 use Rattle.rules.specs.declared.model.TabBarPlacement.{TabBarPlacement}
 use Rattle.rules.specs.declared.operation.TabIndex.{TabIndex}
 use Rattle.rules.specs.declared.model.Ids.{Ids}
@@ -23,7 +23,7 @@ use Rattle.rules.specs.declared.model.Slot.{Slot}
 use Rattle.lists.specs.Exact.{IsIds}
 use Rattle.lists.specs.Places.{length-insertAt, length-removeAt}
 use Rattle.nodes.specs.Parts.{Rows, isGroup, fullBy, isFull, reorderedIn}
-use Rattle.nodes.proofs.SlotLaws.{bare-view, bare-whole, regrouped, regroup-whole, tabs-few, tabs-place}
+use Rattle.nodes.proofs.SlotLaws.{bare-view, bare-whole, regrouped, regroup-whole, tabs-few}
 
 -- ---- what is a group has the kind
 

@@ -1,28 +1,27 @@
 -- Laws of slots read and written, of a slot's lists, and of the slots that new tiles take. Assumes nothing.
 use mathlib.Core.Path.{_≡_, refl, sym, ap, subst, _∙_}
-use mathlib.Core.Logic.{_⊎_, inl, inr}
 use mathlib.Core.Bool.{Bool, true, false, _&&_, _||_, cond}
 use mathlib.Core.List.{List, [], _∷_, map}
-use mathlib.Core.Option.{Option, none, some}
+use mathlib.Core.Option.{none, some}
 use Prim.Native.Nat.{ℕ, zero, suc, _+_, _-_, _≤_, _<_}
 use native.Mathlib.Omega.{arith}
 use native.Mathlib.Numerals.{add-one}
 use native.Mathlib.Nat.{le-of-suc-le-suc}
 use borrow.Author.Tests.{eq-eqb, ne-eqb, le-leb, lt-leb, lt-ltb, le-ltb, ltb-false}
-use lib.Dec.{eqb, leb, ltb}
-use lib.ListN.{length, getD, take, drop, set, length-map, length-take, drop-of-length-le, List·getD-eq-default}
+use lib.Dec.{leb, ltb}
+use lib.ListN.{length, getD, drop, set, length-map, length-take, drop-of-length-le, List·getD-eq-default}
 use lib.Ieee.{Float}
-use lib.Seq.{drop-cons, length-take-le}
+use lib.Seq.{drop-cons}
 use Rattle.rules.specs.Lists.{anyOf, removeAt}
 use Rattle.rules.specs.Numbers.{isValidSplitFraction}
-use Rattle.rules.specs.Tree.{Node, empty, pane, tabs, split, ids, tile, nodeAt, setNode, isEmpty, emptyBy, emptyFrom, emptySlots, nodeOf, overBy, overSlot, viewSlot, wideNode, kidsOf, panesOf}
+use Rattle.rules.specs.Tree.{Node, empty, pane, tabs, split, ids, nodeAt, isEmpty, emptyBy, emptyFrom, emptySlots, nodeOf, overBy, overSlot, viewSlot, panesOf}
 use Rattle.rules.specs.Target.{existing, aGroup, besideBy, validateTarget}
 use Rattle.rules.specs.Insert.{activeAfter, removedFrom}
 use Rattle.rules.specs.declared.model.TileId.{TileId}
 use Rattle.rules.specs.declared.model.Axis.{Axis}
 use Rattle.rules.specs.declared.model.TabBarPlacement.{TabBarPlacement}
 use Rattle.rules.specs.declared.model.Kind.{Kind}
-use Rattle.rules.specs.declared.model.Kind.the-variants.{Empty, Pane, Tabs, Split}
+use Rattle.rules.specs.declared.model.Kind.the-variants.{Tabs, Split}
 use Rattle.rules.specs.declared.model.Slot.{Slot}
 use Rattle.rules.specs.declared.model.Placement.{Placement}
 use Rattle.rules.specs.declared.operation.TabIndex.{TabIndex}

@@ -1,42 +1,34 @@
 -- Laws of splits made and changed, over plain values. Assumes nothing.
 use mathlib.Core.Path.{_≡_, refl, sym, ap, subst, _∙_}
-use mathlib.Core.Bool.{Bool, true, false, _||_}
-use mathlib.Core.List.{List, [], _∷_, map}
-use Prim.Native.Nat.{ℕ, zero, suc, _+_, _≤_, _<_}
+use mathlib.Core.Bool.{false, _||_}
+use Prim.Native.Nat.{ℕ, _+_, _≤_, _<_}
 use native.Mathlib.Omega.{arith}
 use native.Mathlib.Numerals.{add-one}
 use borrow.Author.Tests.{le-ltb}
-use lib.Dec.{eqb, ltb}
-use lib.ListN.{length, take, set, length-map, length-replicate, replicate, length-set}
+use lib.Dec.{ltb}
+use lib.ListN.{length}
 use lib.Seq.{length-take-le}
-use lib.Ieee.{Float, binary64, ofBits, div, ofInt, round, units, odd, size, span, climb, ofFields}
-use Rattle.rules.specs.Numbers.{zero-f, one-f, hundredth, shareOk}
-use Rattle.rules.specs.Lists.{anyOf, insertAt}
+use lib.Ieee.{binary64, ofBits, div, ofInt, round, units, odd, size, span, climb, ofFields}
+use Rattle.rules.specs.Numbers.{zero-f, hundredth}
+use Rattle.rules.specs.Lists.{insertAt}
 use Rattle.rules.specs.Tree.{Node, split, tiles, reals, ids, nodeOf, overBy, viewSlot, overSlot}
-use Rattle.rules.specs.Shares.{fixShare, ones, mendedBy, repairedBy, repairedShares}
+use Rattle.rules.specs.Shares.{repairedShares}
 use Rattle.rules.specs.Minima.{alignedConstraints, compactConstraints}
 use Rattle.rules.specs.Insert.{Beside, insertIndex, dividedShares, insertedIn, replacedIn}
 use Rattle.rules.specs.declared.model.TileId.{TileId}
 use Rattle.rules.specs.declared.model.Axis.{Axis}
 use Rattle.rules.specs.declared.model.Placement.{Placement}
 use Rattle.rules.specs.declared.model.Placement.the-variants.{Before, After}
-use Rattle.rules.specs.declared.model.Ids.{Ids}
 use Rattle.rules.specs.declared.model.Kind.{Kind}
 use Rattle.rules.specs.declared.model.Kind.the-variants.{Empty, Pane, Tabs, Split}
 use Rattle.rules.specs.declared.model.Slot.{Slot}
-use Rattle.lists.specs.Exact.{Exactly, IsTiles, IsReals, Replaced}
-use Rattle.nodes.proofs.SlotLaws.{bare-view, bare-whole, or-left, split-few}
+use Rattle.lists.specs.Exact.{IsTiles, IsReals, Replaced}
+use Rattle.nodes.proofs.SlotLaws.{bare-view, bare-whole, split-few}
 
 -- 0.01 as it is written in the code
 pub a-hundredth : ofBits binary64 4576918229304087675 ≡ hundredth
 unfolding ofBits ofFields hundredth div ofInt round units odd size span climb
 a-hundredth = refl
-
--- ---- shares of a number
-
-fixed-length : (n : ℕ) (b : Bool) (xs : List Float) → length xs ≡ n → length (mendedBy b n xs) ≡ n
-fixed-length n true xs e = length-map xs fixShare ∙ e
-fixed-length n false xs e = length-replicate n one-f
 
 -- ---- places
 

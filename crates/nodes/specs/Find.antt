@@ -1,21 +1,21 @@
 -- Finding by a scan of the slots, in place of the reading order: what each scan says, and that on slots that hold one tree it finds the same. Assumes nothing.
 use mathlib.Core.Path.{_≡_, refl, sym, ap, subst, _∙_}
-use mathlib.Core.Logic.{_≢_, _↔_, _⊎_, inl, inr}
-use mathlib.Core.Bool.{Bool, true, false, not, _||_}
-use mathlib.Core.List.{List, [], _∷_, _++_, map}
+use mathlib.Core.Logic.{_⊎_, inl, inr}
+use mathlib.Core.Bool.{Bool, true, false}
+use mathlib.Core.List.{List, [], _∷_, _++_}
 use mathlib.Core.Option.{Option, none, some}
 use Prim.Native.Nat.{ℕ, zero, suc, _+_, _≤_, _<_}
 use native.Mathlib.Omega.{arith}
 use native.Mathlib.Decide.{ℕ-discrete}
 use borrow.Author.Tests.{eqb-true}
-use lib.Dec.{eqb, T}
+use lib.Dec.{eqb}
 use lib.ListN.{length, getD}
 use Rattle.rules.specs.Lists.{firstBy, positionFrom, position}
 use Rattle.rules.specs.Tree.{Node, empty, pane, tabs, split, tile, nodeAt, isEmpty, kidsOf, panesOf, readingFrom, sameTile, Member}
 use Rattle.rules.specs.Target.{PaneLocation, nowhere, inTile, inTabs, tileHas, tabsHave, located, locate, findPane, Parent, parentBy, seekParent, findParent, panesAlong, panesIn}
 use Rattle.rules.specs.declared.model.TileId.{TileId}
 use Rattle.lists.specs.Find.{position-found}
-use Rattle.forest.specs.Lists.{All, Distinct, never, member-all, all-member, member-right, member-left, clash}
+use Rattle.forest.specs.Lists.{All, Distinct, never, member-all, member-right, member-left, clash}
 use Rattle.forest.specs.Settled.{slots}
 
 -- ---- the scans: slot by slot, from the lowest

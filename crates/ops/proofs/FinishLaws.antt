@@ -10,10 +10,10 @@ use borrow.Author.Tests.{le-ltb, lt-ltb, ltb-false, le-leb, lt-leb}
 use lib.Dec.{ltb, leb}
 use lib.ListN.{length, getD, take, drop, set, length-take}
 use Rattle.rules.specs.Lists.{anyOf}
-use Rattle.rules.specs.Tree.{Node, empty, Arena, arena, view, viewSlot, nodeOf, overBy, overSlot, wideNode, emptySlots}
+use Rattle.rules.specs.Tree.{Node, Arena, arena, view, viewSlot, nodeOf, overBy, overSlot, wideNode, emptySlots}
 use Rattle.rules.specs.Repair.{Normal, normalize, Repaired, repairedBy, repairedAs}
 use Rattle.rules.specs.Insert.{Draft, draft}
-use Rattle.rules.specs.Operations.{Change, change, changed, Step, unchanged, refuse, Applied, refused, accepted, normalBy, normalAs, last-revision, revisedBy, insertedBy, roomBy, finish}
+use Rattle.rules.specs.Operations.{Change, change, changed, Step, refuse, refused, accepted, normalBy, normalAs, last-revision, revisedBy, insertedBy, roomBy, finish}
 use Rattle.rules.specs.declared.model.TileId.{TileId}
 use Rattle.rules.specs.declared.model.Kind.{Kind}
 use Rattle.rules.specs.declared.model.Kind.the-variants.{Empty, Pane, Tabs, Split}
@@ -23,13 +23,12 @@ use Rattle.rules.specs.declared.refusal.Answer.{Answer}
 use Rattle.rules.specs.declared.refusal.Answer.the-variants.{Accepted, Refused}
 use Rattle.rules.specs.declared.refusal.Refusal.{Refusal}
 use Rattle.rules.specs.declared.refusal.Refusal.the-variants.{ArenaFull, TooWide, RevisionExhausted}
-use Rattle.forest.specs.Lists.{All, never}
-use Rattle.forest.specs.Finish.{normalized}
+use Rattle.forest.specs.Lists.{All}
 use Rattle.forest.specs.Soundness.{slots-inside}
 use Rattle.columns.specs.Pack.{firstOf}
 use Rattle.repair.specs.Whole.{repaired, Normalizes}
 use Rattle.repair.specs.declared.Repairing.{Repairing}
-use Rattle.ops.specs.Steps.{applied, Does, Refuses, Changes}
+use Rattle.ops.specs.Steps.{Does, Refuses, Changes}
 use Rattle.ops.specs.declared.Applying.{Applying}
 use Rattle.nodes.proofs.SlotLaws.{or-left, or-right}
 

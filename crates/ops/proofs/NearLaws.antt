@@ -3,22 +3,22 @@ use mathlib.Core.Path.{_≡_, refl, sym, ap, subst, _∙_}
 use mathlib.Core.Bool.{Bool, true, false, _||_}
 use mathlib.Core.List.{List, [], _∷_, map}
 use mathlib.Core.Option.{Option, none, some}
-use Prim.Native.Nat.{ℕ, zero, suc, _+_, _≤_, _<_}
+use Prim.Native.Nat.{ℕ, zero, suc, _≤_, _<_}
 use native.Mathlib.Omega.{arith}
-use borrow.Author.Tests.{lt-ltb, ne-eqb, eq-eqb}
-use lib.Dec.{ltb, eqb}
-use lib.ListN.{length, getD, set, take, drop, length-map, length-set, length-take}
-use lib.Seq.{getD-set-other, length-take-le}
+use borrow.Author.Tests.{lt-ltb}
+use lib.Dec.{ltb}
+use lib.ListN.{length, getD, set, drop, length-map, length-take}
+use lib.Seq.{getD-set-other}
 use lib.Ieee.{Float}
 use Rattle.rules.specs.Numbers.{zero-f}
-use Rattle.rules.specs.Lists.{anyOf, insertAt}
-use Rattle.rules.specs.Tree.{Node, empty, pane, tabs, split, tile, tiles, reals, view, viewSlot, nodeOf, overSlot, nodeAt, setNode, isEmpty, kidsOf, emptySlots, wideNode, sameTile}
+use Rattle.rules.specs.Lists.{insertAt}
+use Rattle.rules.specs.Tree.{Node, empty, split, tile, tiles, reals, view, viewSlot, nodeOf, overSlot, nodeAt, setNode, isEmpty, kidsOf, emptySlots, wideNode, sameTile}
 use Rattle.rules.specs.Shares.{repairedShares}
 use Rattle.rules.specs.Minima.{alignedConstraints, compactConstraints}
 use Rattle.rules.specs.Target.{Parent, findParent}
-use Rattle.rules.specs.Insert.{Draft, draft, insertIndex, dividedShares, insertedIn, newSplit, replacedIn, hasAxis, sameAxisParent}
+use Rattle.rules.specs.Insert.{draft, insertIndex, dividedShares, insertedIn, newSplit, replacedIn}
 use Rattle.rules.specs.Insert as Insert
-use Rattle.rules.specs.Operations.{Step, refuse, change, taken, putNear}
+use Rattle.rules.specs.Operations.{Step, change, taken, putNear}
 use Rattle.rules.specs.declared.model.TileId.{TileId}
 use Rattle.rules.specs.declared.model.Axis.{Axis}
 use Rattle.rules.specs.declared.model.Kind.{Kind}
@@ -27,11 +27,10 @@ use Rattle.rules.specs.declared.model.Slot.{Slot}
 use Rattle.rules.specs.declared.model.TileTree.{TileTree}
 use Rattle.rules.specs.declared.refusal.Refusal.the-variants.{ArenaFull, TooWide, InvalidTileId, InvalidOperation}
 use Rattle.lists.specs.Places.{length-insertAt}
-use Rattle.forest.specs.Lists.{never}
 use Rattle.nodes.specs.Find.{scanParent, scan-holds}
 use Rattle.ops.specs.Near.{alike-kids, taken-empty, like-first, setFirst, setBoth, near-absent, near-loose, near-in, near-root, near-under}
 use Rattle.nodes.specs.Parts.{besideOf, Rows}
-use Rattle.ops.specs.Steps.{Fit, Fits, Nears, Does, Refuses, Changes, parentAt, Within, Rooted, Under}
+use Rattle.ops.specs.Steps.{Fits, Nears, Does, Refuses, Changes, parentAt, Within, Rooted, Under}
 use Rattle.nodes.specs.declared.Beside.{Beside}
 use Rattle.ops.specs.declared.Applying.{Applying}
 use Rattle.nodes.proofs.SlotLaws.{bare-view, split-few}

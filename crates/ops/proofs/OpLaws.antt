@@ -3,19 +3,19 @@ use mathlib.Core.Path.{_≡_, refl, sym, ap, subst, _∙_}
 use mathlib.Core.Bool.{Bool, true, false, cond}
 use mathlib.Core.List.{List, [], _∷_, map}
 use mathlib.Core.Option.{Option, none, some}
-use Prim.Native.Nat.{ℕ, zero, suc, _+_, _≤_, _<_}
+use Prim.Native.Nat.{ℕ, zero, suc, _<_}
 use native.Mathlib.Omega.{arith}
 use borrow.Author.Tests.{le-ltb, leb-true, eq-eqb, ne-eqb}
 use lib.Dec.{ltb, leb, eqb}
-use lib.ListN.{length, getD, set, length-map}
+use lib.ListN.{length, getD, length-map}
 use lib.Ieee.{Float, binary64, ofBits, ofFields, odd, size, span, climb}
 use Rattle.rules.specs.Numbers.{half-f, isValidSplitFraction}
 use Rattle.rules.specs.Lists.{anyOf, position}
 use Rattle.rules.specs.Tree.{Node, empty, pane, tabs, split, view, viewSlot, overSlot, nodeAt, setNode, panesOf, emptySlots, wideNode}
 use Rattle.rules.specs.Target.{PaneLocation, nowhere, inTile, inTabs, isSomewhere, containsPane, panesIn, validateTarget}
-use Rattle.rules.specs.Insert.{draft, beside, removePane}
+use Rattle.rules.specs.Insert.{draft, removePane}
 use Rattle.rules.specs.Operations as Rule
-use Rattle.rules.specs.Operations.{Step, refuse, unchanged, change, changeOnly, orElse, whereIs}
+use Rattle.rules.specs.Operations.{Step, refuse, unchanged, changeOnly, orElse, whereIs}
 use Rattle.rules.specs.declared.model.TileId.{TileId}
 use Rattle.rules.specs.declared.model.Axis.{Axis}
 use Rattle.rules.specs.declared.model.Placement.{Placement}
@@ -24,7 +24,7 @@ use Rattle.rules.specs.declared.model.TileTree.{TileTree}
 use Rattle.rules.specs.declared.operation.TabIndex.{TabIndex}
 use Rattle.rules.specs.declared.operation.DockTarget.{DockTarget}
 use Rattle.rules.specs.declared.refusal.Refusal.{Refusal}
-use Rattle.rules.specs.declared.refusal.Refusal.the-variants.{TooWide, InvalidTileId, InvalidPaneId, InvalidOperation, DuplicatePane}
+use Rattle.rules.specs.declared.refusal.Refusal.the-variants.{TooWide, InvalidPaneId, InvalidOperation, DuplicatePane}
 use Rattle.forest.specs.Lists.{never}
 use Rattle.forest.specs.Soundness.{slots-inside}
 use Rattle.columns.specs.Pack.{firstOf}
@@ -34,7 +34,7 @@ use Rattle.ops.specs.Near.{Alike, alike-self, alike-removed}
 use Rattle.nodes.specs.Parts.{isGroup, reorderedIn}
 use Rattle.ops.specs.Steps.{Fit, Fits, Does, Refuses, Changes, Taken, reorderAs}
 use Rattle.ops.specs.declared.Applying.{Applying}
-use Rattle.ops.proofs.FinishLaws.{does-refuse, does-refused, does-like, does-wide, wide-set}
+use Rattle.ops.proofs.FinishLaws.{does-like, does-wide, wide-set}
 
 -- ---- a change that needs no new tile
 

@@ -3,16 +3,15 @@ use mathlib.Core.Path.{_≡_, refl, sym, ap, subst, _∙_}
 use mathlib.Core.Logic.{_⊎_, inl, inr}
 use mathlib.Core.Bool.{Bool, true, false, _||_}
 use mathlib.Core.List.{List, [], _∷_, map}
-use Prim.Native.Nat.{ℕ, zero, suc, _≤_, _<_}
+use Prim.Native.Nat.{ℕ, suc, _<_}
 use native.Mathlib.Omega.{arith}
 use native.Mathlib.Decide.{ℕ-discrete}
 use borrow.Author.Tests.{le-ltb}
-use lib.Dec.{ltb}
-use lib.ListN.{length, getD, take, length-map, length-take}
+use lib.ListN.{length, getD, length-map, length-take}
 use Rattle.rules.specs.Lists.{anyOf}
-use Rattle.rules.specs.Tree.{Node, empty, tabs, ids, emptyGroup, view, viewSlot, nodeOf, overBy, overSlot}
+use Rattle.rules.specs.Tree.{empty, ids, emptyGroup, view, viewSlot, nodeOf, overBy, overSlot}
 use Rattle.rules.specs.Sound.{sound}
-use Rattle.rules.specs.Operations.{Step, unchanged, refused, applyInner, finish, applyBy, apply}
+use Rattle.rules.specs.Operations.{unchanged, applyInner, applyBy, apply}
 use Rattle.rules.specs.declared.model.Kind.{Kind}
 use Rattle.rules.specs.declared.model.Kind.the-variants.{Empty, Pane, Tabs, Split}
 use Rattle.rules.specs.declared.model.Slot.{Slot}
@@ -21,12 +20,11 @@ use Rattle.rules.specs.declared.operation.TileOp.{TileOp}
 use Rattle.rules.specs.declared.refusal.Answer.the-variants.{Refused}
 use Rattle.rules.specs.declared.refusal.Refusal.{Refusal}
 use Rattle.rules.specs.declared.refusal.Refusal.the-variants.{NotSound}
-use Rattle.forest.specs.Lists.{never}
 use Rattle.forest.specs.Quiet.{plainNodes}
 use Rattle.forest.specs.Settled.{Lone, Settled}
 use Rattle.lists.specs.Places.{getD-map}
 use Rattle.nodes.specs.Find.{find-scan, parent-scan}
-use Rattle.ops.specs.Trees.{Standing, sound-cases, sound-standing}
+use Rattle.ops.specs.Trees.{sound-cases, sound-standing}
 use Rattle.ops.specs.Steps.{Fit, applied, Does, Refuses}
 use Rattle.ops.specs.declared.Applying.{Applying}
 
@@ -100,8 +98,3 @@ unsound-applies t op r e R =
 pub sound-applies : (t : TileTree) (op : TileOp) (r : Applying) → sound (view t) ≡ true → Does t (applyInner (view t) op) r → Applies t op r
 unfolding apply
 sound-applies t op r e D = (D .right ∙ sym (ap (λ (b : Bool). applyBy b (view t) op) e), D .given, λ s q. D .kept q)
-
--- ---- apply_inner goes by the operation
-
-pub inner-like : (t : TileTree) (op other : TileOp) (r : Applying) → op ≡ other → Does t (applyInner (view t) other) r → Does t (applyInner (view t) op) r
-inner-like t op other r e D = subst (λ (o : TileOp). Does t (applyInner (view t) o) r) (sym e) D

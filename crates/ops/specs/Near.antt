@@ -1,10 +1,10 @@
 -- A tile put beside another, step by step: what the rule comes to in each case, with the parent that was found in the slots as they were given. Assumes nothing.
 use mathlib.Core.Path.{_≡_, refl, sym, ap, subst, _∙_}
 use mathlib.Core.Logic.{_⊎_, inl, inr}
-use mathlib.Core.Bool.{Bool, true, false, _||_, cond}
-use mathlib.Core.List.{List, [], _∷_, _++_}
+use mathlib.Core.Bool.{Bool, true, false, cond}
+use mathlib.Core.List.{List, [], _∷_}
 use mathlib.Core.Option.{Option, none, some}
-use Prim.Native.Nat.{ℕ, zero, suc, _+_, _≤_, _<_}
+use Prim.Native.Nat.{ℕ, zero, suc, _+_}
 use native.Mathlib.Omega.{arith}
 use native.Mathlib.Decide.{ℕ-discrete}
 use lib.ListN.{length, getD, set, drop, List·getD-eq-default}
@@ -12,7 +12,7 @@ use lib.Seq.{getD-set-other}
 use Rattle.rules.specs.Lists.{position}
 use Rattle.rules.specs.Tree.{Node, empty, pane, tabs, split, Arena, tile, nodeAt, setNode, isEmpty, kidsOf, emptyBy, emptyFrom, emptySlots, readingFrom, sameTile}
 use Rattle.rules.specs.Target.{PaneLocation, nowhere, inTile, inTabs, Parent, parentBy, seekParent, findParent, existing}
-use Rattle.rules.specs.Insert.{Draft, draft, Beside, insertedIn, hasAxis, newSplit, replacedIn, hang, insertNew, sameAxisParent, insertAtParent, parentOf, insertTileNear, neededNear, hangingBy, nearBy, refusedNear, removedFrom, removePane}
+use Rattle.rules.specs.Insert.{Draft, draft, Beside, insertedIn, hasAxis, newSplit, replacedIn, hang, sameAxisParent, insertAtParent, parentOf, insertTileNear, neededNear, hangingBy, nearBy, refusedNear, removedFrom, removePane}
 use Rattle.rules.specs.Operations.{Step, refuse, change, orElse, taken, putNear}
 use Rattle.rules.specs.declared.model.TileId.{TileId}
 use Rattle.rules.specs.declared.model.Axis.{Axis}

@@ -2,17 +2,17 @@
 -- Assumes nothing.
 use mathlib.Core.Path.{_≡_, refl, sym, ap, subst, _∙_}
 use mathlib.Core.Logic.{_⊎_, inl, inr}
-use mathlib.Core.Bool.{Bool, true, false, cond}
+use mathlib.Core.Bool.{Bool, true, false}
 use mathlib.Core.List.{List, [], _∷_}
 use mathlib.Core.Option.{Option, none, some}
-use Prim.Native.Nat.{ℕ, zero, suc, _≤_, _<_}
+use Prim.Native.Nat.{ℕ, zero, suc, _<_}
 use native.Mathlib.Omega.{arith}
 use lib.Dec.{ltb, leb, eqb}
 use lib.ListN.{length, getElem?, drop, length-set}
 use lib.Ieee.{Float}
 use Rattle.rules.specs.Numbers.{half-f, isValidSplitFraction}
 use Rattle.rules.specs.Lists.{anyOf, position}
-use Rattle.rules.specs.Tree.{Node, empty, pane, tabs, split, Arena, arena, nodeAt, setNode, emptySlots, wideNode, sameTile}
+use Rattle.rules.specs.Tree.{Node, empty, pane, tabs, split, Arena, view, nodeAt, setNode, emptySlots, wideNode, sameTile}
 use Rattle.rules.specs.Repair.{Normal, normalize}
 use Rattle.rules.specs.Sound.{sound}
 use Rattle.rules.specs.Target.{PaneLocation, nowhere, inTile, inTabs, Parent, containsPane, validateTarget}
@@ -20,7 +20,7 @@ use Rattle.rules.specs.Insert.{Draft, draft, Beside, beside, newSplit, hang, sa
 use Rattle.rules.specs.Operations as Rule
 use Rattle.rules.specs.Operations.{Change, Step, refuse, unchanged, changed, change, changeOnly, orElse, start, taken, whereIs, putNear, Applied, refused, accepted, normalBy, normalAs, last-revision, revisedBy, insertedBy, roomBy, finish, applyInner, applyBy, apply}
 use Rattle.rules.specs.declared.model.TileId.{TileId}
-use Rattle.rules.specs.declared.model.TabBarPlacement.{TabBarPlacement}
+use Rattle.rules.specs.declared.model.TileTree.{TileTree}
 use Rattle.rules.specs.declared.model.TabBarPlacement.the-variants.{Top}
 use Rattle.rules.specs.declared.model.Axis.{Axis}
 use Rattle.rules.specs.declared.model.Axis.the-variants.{Horizontal}
@@ -36,6 +36,8 @@ use Rattle.rules.specs.declared.refusal.Refusal.the-variants.{ArenaFull, TooWid
 use Rattle.forest.specs.Lists.{All}
 use Rattle.forest.specs.Settled.{settled}
 use Rattle.forest.specs.Soundness.{Finished, finished-sound, slots-inside}
+use Rattle.ops.specs.Steps.{applied}
+use Rattle.ops.specs.declared.Applying.{Applying}
 
 -- ---- a change keeps the number of slots, and its free slots are slots
 
@@ -235,3 +237,8 @@ module _ (a : Arena) (size : length (a .nodes) ≡ 64) where
       go : (b : Bool) → sound a ≡ b → applyBy b a op .answer ≡ Accepted → sound (applyBy b a op .tree) ≡ true
       go true s q = subst (λ (c : Bool). sound (applyBy c a op .tree) ≡ true) s (apply-sound op s)
       go false s q = refused-not q
+
+-- ---- two answers that meet apply's contract agree, places past a list's length aside
+
+pub one-answer : (t : TileTree) (op : TileOp) (r s : Applying) → applied r ≡ apply (view t) op → applied s ≡ apply (view t) op → (r .answer ≡ s .answer) × (view (r .tree) ≡ view (s .tree))
+one-answer t op r s x y = (ap (λ (z : Applied). z .answer) (x ∙ sym y), ap (λ (z : Applied). z .tree) (x ∙ sym y))

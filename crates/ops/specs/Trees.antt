@@ -1,31 +1,29 @@
 -- Slots of a sound arena hold one tree, in the words that the scans need: occupied slots are read, panes stand once, tiles have one parent; and where one pane
 -- at most is left some slot is empty. Assumes nothing.
 use mathlib.Core.Path.{_≡_, refl, sym, ap, subst, _∙_}
-use mathlib.Core.Logic.{_≢_, _↔_, _⊎_, inl, inr}
+use mathlib.Core.Logic.{_≢_, _⊎_, inl, inr}
 use mathlib.Core.Bool.{Bool, true, false, not, _&&_, _||_}
-use mathlib.Core.List.{List, [], _∷_, _++_, map}
-use mathlib.Core.Option.{Option, none, some}
+use mathlib.Core.List.{List, [], _∷_, _++_}
 use Prim.Native.Nat.{ℕ, zero, suc, _+_, _≤_, _<_}
 use native.Mathlib.Omega.{arith}
 use native.Mathlib.Decide.{ℕ-discrete}
 use borrow.Author.Tests.{eqb-true}
 use lib.Dec.{eqb, T}
-use lib.ListN.{length, getD, set, length-map, length-append, List·getD-map}
+use lib.ListN.{length, getD, length-map, length-append, List·getD-map}
 use lib.Seq.{getD-set-other}
 use Rattle.rules.specs.Lists.{allOf, sameList}
-use Rattle.rules.specs.Tree.{Node, empty, pane, tabs, split, Arena, arena, nodeAt, clearNode, isEmpty, kidsOf, panesOf, emptyBy, emptyFrom, emptySlots, emptyGroup, barCode, reading, readingFrom, sameNode, Member, Reached}
+use Rattle.rules.specs.Tree.{Node, empty, pane, tabs, split, Arena, nodeAt, clearNode, isEmpty, kidsOf, panesOf, emptyBy, emptyFrom, emptySlots, emptyGroup, barCode, reading, readingFrom, sameNode, Member}
 use Rattle.rules.specs.Target.{panesAlong, panesIn}
 use Rattle.rules.specs.Sound.{isAccepted, isNone, loneEmptyRoot, sound}
-use Rattle.rules.specs.Repair.{repair, childrenOf}
+use Rattle.rules.specs.Repair.{repair}
 use Rattle.rules.specs.declared.model.TileId.{TileId}
 use Rattle.rules.specs.declared.model.TabBarPlacement.{TabBarPlacement}
 use Rattle.rules.specs.declared.model.TabBarPlacement.the-variants.{Hidden, Top, Bottom, Left, Right}
-use Rattle.forest.specs.Lists.{All, Distinct, never, member-all, all-member, member-left, member-right, member-cases, distinct-left, distinct-right, clash}
+use Rattle.forest.specs.Lists.{All, Distinct, never, member-all, member-left, member-right, member-cases, distinct-left, distinct-right, clash}
 use Rattle.forest.specs.Forest.{Forest, nil, leaf, node, roots, tiles, shown, Leafy, Holds}
-use Rattle.forest.specs.Grow.{nothing, group, branch, keptOf, stem}
-use Rattle.forest.specs.Grow as Grow
+use Rattle.forest.specs.Grow.{nothing, group, branch, stem}
 use Rattle.forest.specs.Again.{heads, leafy-kids}
-use Rattle.forest.specs.Settled.{Tidy, Lone, Settled, slots, slots-are, occupied-in}
+use Rattle.forest.specs.Settled.{Lone, Settled, slots, occupied-in}
 use Rattle.forest.specs.Reach.{occupied-reached, read-once, tidy-panes, panes-once}
 use Rattle.forest.specs.Equal.{and-both}
 use Rattle.forest.specs.Quiet.{plainNode, plainNodes}

@@ -1,11 +1,11 @@
 -- `nodes::find::find_parent` passes one slot after another until one has the tile among its children. Assumes nothing.
-use mathlib.Core.Path.{_≡_, refl, sym, ap, subst, _∙_}
-use mathlib.Core.Bool.{Bool, true, false, _||_, _&&_, cond}
+use mathlib.Core.Path.{_≡_, refl, sym, ap, _∙_}
+use mathlib.Core.Bool.{false}
 use native.Mathlib.Omega.{arith}
 use borrow.Author.Needs.{needs}
 use mathlib.Core.List.{map}
 use Prim.Native.Nat.{_≤_, _-_}
-use lib.ListN.{length, getD}
+use lib.ListN.{length}
 use Rattle.rules.specs.Lists.{anyOf}
 use Rattle.rules.specs.Tree.{viewSlot, overSlot}
 use Rattle.lists.specs.Find.{placeOf}

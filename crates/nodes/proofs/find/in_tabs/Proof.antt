@@ -1,5 +1,5 @@
 -- `nodes::find::in_tabs` hands on the place that the search found. Assumes nothing.
-use mathlib.Core.Path.{_≡_, refl, sym, ap, subst, _∙_}
+use mathlib.Core.Path.{sym, ap, _∙_}
 use mathlib.Core.Option.{Option}
 use Prim.Native.Nat.{ℕ}
 use Rattle.rules.specs.Target.{nowhere, tabsHave}

@@ -1,7 +1,7 @@
 -- `nodes::find::in_tile` goes by one test. Assumes nothing.
-use mathlib.Core.Path.{_≡_, refl, sym, ap, subst, _∙_}
-use mathlib.Core.Bool.{Bool, true, false, _||_, _&&_, cond}
-use borrow.Author.Tests.{eq-eqb, ne-eqb, le-leb, lt-leb}
+use mathlib.Core.Path.{sym, ap}
+use mathlib.Core.Bool.{Bool}
+use borrow.Author.Tests.{eq-eqb, ne-eqb}
 use Rattle.rules.specs.Target.{nowhere, tileHas}
 use Rattle.nodes.proofs.find.in_tile.Statement.{statement}
 use Rattle.nodes.proofs.find.in_tile.Tie as tie

@@ -1,8 +1,6 @@
 -- `nodes::find::pane_in` goes by the slot's kind. Assumes nothing.
-use mathlib.Core.Path.{_≡_, refl, sym, ap, subst, _∙_}
-use mathlib.Core.Bool.{Bool, true, false, _||_, _&&_, cond}
-use native.Mathlib.Omega.{arith}
-use Rattle.rules.specs.Tree.{nodeOf, overBy}
+use mathlib.Core.Path.{sym, ap, _∙_}
+use Rattle.rules.specs.Tree.{nodeOf}
 use Rattle.rules.specs.Target.{nowhere, located}
 use Rattle.rules.specs.declared.model.Kind.{Kind}
 use Rattle.nodes.proofs.SlotLaws.{tabs-few}

@@ -1,7 +1,5 @@
 -- `nodes::find::place_in` goes by the slot's kind. Assumes nothing.
-use Rattle.rules.specs.declared.model.Kind.the-variants.{Empty, Pane, Tabs, Split}
-use mathlib.Core.Path.{_≡_, refl, sym, ap, subst, _∙_}
-use mathlib.Core.Bool.{Bool, true, false, _||_, _&&_, cond}
+use mathlib.Core.Path.{sym, ap, _∙_}
 use Rattle.rules.specs.Lists.{position}
 use Rattle.rules.specs.Tree.{nodeOf, kidsOf, sameTile}
 use Rattle.rules.specs.declared.model.Kind.{Kind}

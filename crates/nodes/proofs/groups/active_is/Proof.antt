@@ -1,5 +1,5 @@
 -- `nodes::groups::active_is` goes by the slot's kind. Assumes nothing.
-use mathlib.Core.Path.{_≡_, refl, sym, ap, subst, _∙_}
+use mathlib.Core.Path.{sym, ap}
 use Rattle.rules.specs.Tree.{nodeOf}
 use Rattle.rules.specs.Operations.{activeIs}
 use Rattle.rules.specs.declared.model.Kind.{Kind}

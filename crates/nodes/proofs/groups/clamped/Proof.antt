@@ -1,5 +1,5 @@
 -- `nodes::groups::clamped` goes by the index. Assumes nothing.
-use mathlib.Core.Path.{_≡_, refl, sym, ap, subst, _∙_}
+use mathlib.Core.Path.{sym, ap, subst, _∙_}
 use Prim.Native.Nat.{ℕ, _≤_}
 use native.Mathlib.Nat.{min-le-right}
 use Rattle.rules.specs.Operations.{clamped}

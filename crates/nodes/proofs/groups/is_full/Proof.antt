@@ -1,5 +1,5 @@
 -- `nodes::groups::is_full` goes by the slot's kind. Assumes nothing.
-use mathlib.Core.Path.{_≡_, refl, sym, ap, subst, _∙_}
+use mathlib.Core.Path.{sym, ap}
 use Rattle.nodes.specs.Parts.{fullBy}
 use Rattle.rules.specs.declared.model.Kind.{Kind}
 use borrow.Author.Needs.{needs}

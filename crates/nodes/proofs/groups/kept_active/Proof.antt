@@ -1,5 +1,5 @@
 -- `nodes::groups::kept_active` meets its contract. Assumes nothing.
-use mathlib.Core.Path.{_≡_, refl, sym, ap, subst, _∙_}
+use mathlib.Core.Path.{_∙_}
 use native.Mathlib.Omega.{arith}
 use Rattle.rules.specs.Tree.{ids}
 use Rattle.nodes.proofs.GroupLaws.{kept-past, kept-here}

@@ -1,6 +1,4 @@
 -- `nodes::groups::landing` meets its contract. Assumes nothing.
-use mathlib.Core.Path.{_≡_, refl, sym, ap, subst, _∙_}
-use Prim.Native.Nat.{_≤_, _<_}
 use Rattle.nodes.proofs.SlotLaws.{tabs-few, tabs-place}
 use Rattle.nodes.proofs.GroupLaws.{group-kind, landed}
 use borrow.Author.Needs.{needs}

@@ -1,6 +1,5 @@
 -- `nodes::groups::reordered` meets its contract. Assumes nothing.
-use mathlib.Core.Path.{_≡_, refl, sym, ap, subst, _∙_}
-use Prim.Native.Nat.{_≤_, _<_}
+use mathlib.Core.Path.{refl}
 use Rattle.nodes.proofs.SlotLaws.{tabs-few, tabs-place}
 use Rattle.nodes.proofs.GroupLaws.{group-kind, reorder-places, reordered-is}
 use Rattle.nodes.proofs.groups.reordered.Statement.{statement}

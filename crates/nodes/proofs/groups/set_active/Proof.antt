@@ -1,5 +1,5 @@
 -- `nodes::groups::set_active` meets its contract. Assumes nothing.
-use mathlib.Core.Path.{_≡_, refl, sym, ap, subst, _∙_}
+use mathlib.Core.Path.{refl}
 use Rattle.nodes.proofs.GroupLaws.{activated}
 use Rattle.nodes.proofs.groups.set_active.Statement.{statement}
 use Rattle.nodes.proofs.groups.set_active.Tie as tie

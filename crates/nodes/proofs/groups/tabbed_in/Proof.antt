@@ -1,8 +1,7 @@
 -- `nodes::groups::tabbed_in` goes by the slot's kind. Assumes nothing.
-use mathlib.Core.Path.{_≡_, refl, sym, ap, subst, _∙_}
-use native.Mathlib.Omega.{arith}
+use mathlib.Core.Path.{refl}
 use Rattle.rules.specs.Operations.{tabbedIn}
-use Rattle.rules.specs.declared.model.Kind.the-variants.{Empty, Pane, Tabs, Split}
+use Rattle.rules.specs.declared.model.Kind.the-variants.{Split}
 use Rattle.nodes.proofs.SlotLaws.{tabs-few, unmoved}
 use Rattle.nodes.proofs.GroupLaws.{roomy, tabbed}
 use borrow.Author.Needs.{needs}

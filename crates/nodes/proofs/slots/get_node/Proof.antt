@@ -1,5 +1,5 @@
 -- `nodes::slots::get_node` reads a slot, or an empty one past the end. Assumes nothing.
-use mathlib.Core.Path.{_≡_, refl, sym, ap, subst, _∙_}
+use mathlib.Core.Path.{_≡_, _∙_}
 use native.Mathlib.Omega.{arith}
 use lib.ListN.{length}
 use Rattle.rules.specs.declared.model.Kind.the-variants.{Empty}

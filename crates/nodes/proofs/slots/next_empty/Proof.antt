@@ -1,13 +1,11 @@
 -- `nodes::slots::next_empty` passes one slot after another until one is empty. Assumes nothing.
-use mathlib.Core.Path.{_≡_, refl, sym, ap, subst, _∙_}
-use mathlib.Core.Bool.{Bool, true, false, _||_, _&&_, cond}
+use mathlib.Core.Path.{_≡_, refl, sym, _∙_}
 use native.Mathlib.Omega.{arith}
 use borrow.Author.Needs.{needs}
 use mathlib.Core.List.{map}
 use Prim.Native.Nat.{_≤_, _-_}
-use lib.ListN.{length, getD}
-use Rattle.rules.specs.Lists.{anyOf}
-use Rattle.rules.specs.Tree.{viewSlot, overSlot}
+use lib.ListN.{length}
+use Rattle.rules.specs.Tree.{viewSlot}
 use Rattle.nodes.proofs.SlotLaws.{Passing, passing-slot-found, passing-slot-more, passing-slot-all}
 use Rattle.nodes.proofs.slots.next_empty.Statement.{statement}
 use Rattle.nodes.proofs.slots.next_empty.Tie as tie

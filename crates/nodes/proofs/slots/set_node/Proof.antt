@@ -1,6 +1,5 @@
 -- `nodes::slots::set_node` stores a slot, or nothing past the end. Assumes nothing.
-use mathlib.Core.Path.{_≡_, refl, sym, ap, subst, _∙_}
-use native.Mathlib.Omega.{arith}
+use mathlib.Core.Path.{_≡_}
 use lib.ListN.{length}
 use Rattle.rules.specs.Tree.{viewSlot}
 use Rattle.nodes.proofs.SlotLaws.{map-set, set-whole, put-past}

@@ -1,16 +1,13 @@
 -- `nodes::slots::top_group` meets its contract. Assumes nothing.
-use mathlib.Core.List.{List}
-use Prim.Native.Nat.{ℕ}
-use Rattle.rules.specs.declared.model.TabBarPlacement.{TabBarPlacement}
 use borrow.Author.Tests.{le-ltb}
-use mathlib.Core.List.{[], _∷_}
+use mathlib.Core.List.{[]}
 use native.Mathlib.Omega.{arith}
 use Rattle.rules.specs.Tree.{tabs}
 use Rattle.rules.specs.declared.model.TabBarPlacement.the-variants.{Top}
 use Rattle.rules.specs.declared.model.Kind.the-variants.{Tabs}
 use Rattle.lists.specs.Build.{exactly-push}
 use Rattle.nodes.proofs.SlotLaws.{bare-view, bare-whole}
-use mathlib.Core.Path.{_≡_, refl, sym, ap, subst, _∙_}
+use mathlib.Core.Path.{ap, _∙_}
 use borrow.Author.Needs.{needs}
 use Rattle.nodes.proofs.slots.top_group.Statement.{statement}
 use Rattle.nodes.proofs.slots.top_group.Tie as tie

@@ -1,6 +1,5 @@
 -- `nodes::splits::at_least` meets its contract: the number written in the code is the rule's. Assumes nothing.
-use mathlib.Core.Path.{_≡_, refl, sym, ap, subst, _∙_}
-use lib.Ieee.{Float}
+use mathlib.Core.Path.{ap, _∙_}
 use Rattle.rules.specs.Numbers.{larger}
 use Rattle.nodes.proofs.SplitLaws.{a-hundredth}
 use borrow.Author.Needs.{needs}

@@ -1,7 +1,6 @@
 -- `nodes::splits::divided_shares` divides one share in two. Assumes nothing.
-use mathlib.Core.Path.{_≡_, refl, sym, ap, subst, _∙_}
+use mathlib.Core.Path.{sym, ap, subst, _∙_}
 use native.Mathlib.Omega.{arith}
-use mathlib.Core.List.{List}
 use lib.ListN.{getD, set}
 use lib.Ieee.{Float}
 use Rattle.rules.specs.Numbers.{one-f}

@@ -1,5 +1,5 @@
 -- `nodes::splits::has_axis` goes by the slot's kind. Assumes nothing.
-use mathlib.Core.Path.{_≡_, refl, sym, ap, subst, _∙_}
+use mathlib.Core.Path.{sym, ap, _∙_}
 use Rattle.rules.specs.Tree.{nodeOf}
 use Rattle.rules.specs.Insert.{hasAxis}
 use Rattle.rules.specs.declared.model.Kind.{Kind}

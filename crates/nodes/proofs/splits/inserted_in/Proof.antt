@@ -1,9 +1,8 @@
 -- `nodes::splits::inserted_in` grows the three lists of a split. Assumes nothing.
-use mathlib.Core.Path.{_≡_, refl, sym, ap, subst, _∙_}
+use mathlib.Core.Path.{refl, sym, ap, subst, _∙_}
 use native.Mathlib.Omega.{arith}
-use mathlib.Core.List.{List}
 use Prim.Native.Nat.{ℕ, _≤_}
-use lib.Ieee.{Float, ofBits}
+use lib.Ieee.{ofBits}
 use Rattle.rules.specs.Numbers.{zero-f}
 use Rattle.rules.specs.Lists.{insertAt}
 use Rattle.rules.specs.Tree.{reals}

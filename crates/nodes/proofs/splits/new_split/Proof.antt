@@ -1,5 +1,5 @@
 -- `nodes::splits::new_split` goes by the placement. Assumes nothing.
-use mathlib.Core.Path.{_≡_, refl, sym, ap, subst, _∙_}
+use mathlib.Core.Path.{sym, ap, _∙_}
 use mathlib.Core.List.{[], _∷_}
 use Rattle.rules.specs.Tree.{split}
 use Rattle.rules.specs.Insert.{newSplit}

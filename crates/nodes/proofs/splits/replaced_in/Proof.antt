@@ -1,5 +1,5 @@
 -- `nodes::splits::replaced_in` meets its contract. Assumes nothing.
-use mathlib.Core.Path.{_≡_, refl, sym, ap, subst, _∙_}
+use mathlib.Core.Path.{refl}
 use Rattle.nodes.proofs.SplitLaws.{replaced-is}
 use borrow.Author.Needs.{needs}
 use Rattle.nodes.proofs.splits.replaced_in.Statement.{statement}

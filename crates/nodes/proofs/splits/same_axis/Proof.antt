@@ -1,5 +1,5 @@
 -- `nodes::splits::same_axis` goes by both axes. Assumes nothing.
-use mathlib.Core.Path.{_≡_, refl, sym, ap, subst, _∙_}
+use mathlib.Core.Path.{sym}
 use Rattle.rules.specs.Tree.{sameAxis}
 use borrow.Author.Needs.{needs}
 use Rattle.nodes.proofs.splits.same_axis.Statement.{statement}

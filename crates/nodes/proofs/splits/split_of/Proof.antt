@@ -1,8 +1,7 @@
 -- `nodes::splits::split_of` meets its contract. Assumes nothing.
-use mathlib.Core.Path.{_≡_, refl, sym, ap, subst, _∙_}
-use native.Mathlib.Omega.{arith}
+use mathlib.Core.Path.{_∙_}
 use Rattle.rules.specs.Tree.{split}
-use Rattle.rules.specs.declared.model.Kind.the-variants.{Empty, Pane, Tabs, Split}
+use Rattle.rules.specs.declared.model.Kind.the-variants.{Split}
 use Rattle.nodes.proofs.SlotLaws.{bare-view}
 use Rattle.nodes.proofs.SplitLaws.{split-whole}
 use borrow.Author.Needs.{needs}

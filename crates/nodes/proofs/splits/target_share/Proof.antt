@@ -1,5 +1,5 @@
 -- `nodes::splits::target_share` meets its contract. Assumes nothing.
-use mathlib.Core.Path.{_≡_, refl, sym, ap, subst, _∙_}
+use mathlib.Core.Path.{ap, _∙_}
 use lib.Ieee.{Float, binary64, sub}
 use Rattle.rules.specs.Numbers.{larger, hundredth}
 use borrow.Author.Needs.{needs}

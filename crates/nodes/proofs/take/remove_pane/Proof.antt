@@ -1,18 +1,15 @@
 -- `nodes::take::remove_pane` goes by where the pane stands. Assumes nothing.
 use Rattle.nodes.specs.declared.PaneLocation.{PaneLocation as Location}
-use mathlib.Core.List.{List}
-use Rattle.rules.specs.Tree.{nodeAt}
 use mathlib.Core.List.{map}
 use lib.ListN.{length}
 use Rattle.rules.specs.Tree.{Node, viewSlot, panesOf, setNode}
-use Rattle.rules.specs.Target.{PaneLocation}
 use Rattle.rules.specs.Insert.{removePane, removedFrom}
 use Prim.Native.Nat.{_<_}
-use Rattle.rules.specs.declared.model.Kind.the-variants.{Empty, Pane, Tabs, Split}
+use Rattle.rules.specs.declared.model.Kind.the-variants.{Empty}
 use Rattle.nodes.specs.Parts.{locationOf}
 use Rattle.nodes.specs.Find.{Stands}
 use Rattle.nodes.proofs.SlotLaws.{bare-view, bare-whole}
-use mathlib.Core.Path.{_≡_, refl, sym, ap, subst, _∙_}
+use mathlib.Core.Path.{sym, ap, subst, _∙_}
 use borrow.Author.Needs.{needs}
 use Rattle.nodes.proofs.take.remove_pane.Statement.{statement}
 use Rattle.nodes.proofs.take.remove_pane.Tie as tie

@@ -1,8 +1,8 @@
 -- `nodes::take::removed_from` goes by the slot's kind. Assumes nothing.
 use Rattle.rules.specs.Insert.{removedFrom}
-use Rattle.rules.specs.declared.model.Kind.the-variants.{Empty, Pane, Tabs, Split}
+use Rattle.rules.specs.declared.model.Kind.the-variants.{Split}
 use Rattle.nodes.proofs.SlotLaws.{tabs-few, tabs-place, removed-is, unmoved}
-use mathlib.Core.Path.{_≡_, refl, sym, ap, subst, _∙_}
+use mathlib.Core.Path.{refl}
 use borrow.Author.Needs.{needs}
 use Rattle.nodes.proofs.take.removed_from.Statement.{statement}
 use Rattle.nodes.proofs.take.removed_from.Tie as tie

@@ -1,5 +1,5 @@
 -- `ops::finish::change` adds one to the revision and repairs, or refuses. Assumes nothing.
-use mathlib.Core.Path.{_≡_, refl, sym, ap, subst, _∙_}
+use mathlib.Core.Path.{refl}
 use native.Mathlib.Omega.{arith}
 use Rattle.ops.proofs.FinishLaws.{change-last, change-accepted, change-refused}
 use borrow.Author.Needs.{needs}

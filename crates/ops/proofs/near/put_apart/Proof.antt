@@ -1,7 +1,5 @@
 -- `ops::near::put_apart` goes by whether the target is the root, and by what holds it. Assumes nothing.
-use mathlib.Core.Path.{_≡_, refl, sym, ap, subst, _∙_}
-use native.Mathlib.Omega.{arith}
-use mathlib.Core.Option.{Option}
+use mathlib.Core.Path.{_≡_, ap, subst}
 use borrow.Author.Tests.{eq-eqb, ne-eqb}
 use mathlib.Core.List.{map}
 use mathlib.Core.Bool.{false}

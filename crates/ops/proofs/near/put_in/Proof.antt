@@ -1,6 +1,4 @@
 -- `ops::near::put_in` refuses for want of room or of places, or makes the tile and puts it into the split. Assumes nothing.
-use mathlib.Core.Path.{_≡_, refl, sym, ap, subst, _∙_}
-use native.Mathlib.Omega.{arith}
 use Rattle.ops.proofs.NearLaws.{split-bounds, put-in-full, put-in-place, put-in-wide, put-in-goes}
 use borrow.Author.Needs.{needs}
 use Rattle.ops.proofs.near.put_in.Statement.{statement}

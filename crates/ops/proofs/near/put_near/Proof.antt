@@ -1,6 +1,5 @@
 -- `ops::near::put_near` goes by the target, by what holds it, and by the axis. Assumes nothing.
-use mathlib.Core.Path.{_≡_, refl, sym, ap, subst, _∙_}
-use mathlib.Core.Bool.{Bool, true, false}
+use mathlib.Core.Path.{sym, ap, subst, _∙_}
 use mathlib.Core.List.{map}
 use borrow.Author.Tests.{not-true, not-false}
 use Rattle.rules.specs.Tree.{viewSlot, isEmpty}

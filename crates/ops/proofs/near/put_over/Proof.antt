@@ -1,6 +1,4 @@
 -- `ops::near::put_over` refuses for want of room, or makes the two tiles. Assumes nothing.
-use mathlib.Core.Path.{_≡_, refl, sym, ap, subst, _∙_}
-use native.Mathlib.Omega.{arith}
 use Rattle.ops.proofs.NearLaws.{both-is, put-over-full, put-over-goes}
 use borrow.Author.Needs.{needs}
 use Rattle.ops.proofs.near.put_over.Statement.{statement}

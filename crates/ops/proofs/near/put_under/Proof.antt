@@ -1,6 +1,4 @@
 -- `ops::near::put_under` refuses for want of room, or makes the two tiles and puts the split in the target's place. Assumes nothing.
-use mathlib.Core.Path.{_≡_, refl, sym, ap, subst, _∙_}
-use native.Mathlib.Omega.{arith}
 use Rattle.ops.proofs.NearLaws.{split-bounds, both-is, put-under-full, put-under-place, put-under-goes}
 use borrow.Author.Needs.{needs}
 use Rattle.ops.proofs.near.put_under.Statement.{statement}

@@ -1,6 +1,6 @@
 -- `ops::near::same_axis_parent` goes by what holds the target. Assumes nothing.
-use mathlib.Core.Path.{_≡_, refl, sym, ap, subst, _∙_}
-use mathlib.Core.List.{List, map}
+use mathlib.Core.Path.{sym, ap, _∙_}
+use mathlib.Core.List.{map}
 use Rattle.rules.specs.Tree.{viewSlot}
 use Rattle.rules.specs.Insert.{hasAxis, sameAxisParent}
 use Rattle.nodes.specs.Parts.{holderOf}

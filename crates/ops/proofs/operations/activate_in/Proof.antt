@@ -1,8 +1,8 @@
 -- `ops::operations::activate_in` goes by the group's active index. Assumes nothing.
-use mathlib.Core.Path.{_≡_, refl, sym, ap, subst, _∙_}
-use mathlib.Core.List.{List, [], _∷_, map}
-use lib.ListN.{length, length-map}
-use Rattle.rules.specs.Tree.{Node, view, viewSlot, nodeAt, setNode}
+use mathlib.Core.Path.{sym, ap, _∙_}
+use mathlib.Core.List.{map}
+use lib.ListN.{length-map}
+use Rattle.rules.specs.Tree.{Node, viewSlot, setNode}
 use Rattle.rules.specs.Operations as Rule
 use Rattle.ops.proofs.OpLaws.{activate-same, activate-other}
 use borrow.Author.Needs.{needs}

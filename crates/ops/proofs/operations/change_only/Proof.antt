@@ -1,8 +1,7 @@
 -- `ops::operations::change_only` meets its contract. Assumes nothing.
-use mathlib.Core.Path.{_≡_, refl, sym, ap, subst, _∙_}
-use mathlib.Core.List.{List, [], _∷_, map}
-use lib.ListN.{length, length-map}
-use Rattle.rules.specs.Tree.{Node, view, viewSlot, nodeAt, setNode}
+use mathlib.Core.Path.{_∙_}
+use lib.ListN.{length-map}
+use Rattle.rules.specs.Tree.{viewSlot}
 use Rattle.ops.proofs.OpLaws.{only-goes}
 use borrow.Author.Needs.{needs}
 use Rattle.ops.proofs.operations.change_only.Statement.{statement}

@@ -1,6 +1,6 @@
 -- `ops::operations::close_pane` refuses an absent pane, and takes out any other. Assumes nothing.
-use mathlib.Core.Path.{_≡_, refl, sym, ap, subst, _∙_}
-use Rattle.rules.specs.Tree.{Node, view, viewSlot, nodeAt, setNode}
+use mathlib.Core.Path.{sym, _∙_}
+use Rattle.rules.specs.Tree.{view}
 use Rattle.rules.specs.Operations as Rule
 use Rattle.rules.specs.Target.{PaneLocation}
 use Rattle.nodes.specs.Parts.{locationOf}

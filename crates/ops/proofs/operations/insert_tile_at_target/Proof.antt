@@ -1,10 +1,9 @@
 -- `ops::operations::insert_tile_at_target` goes by the target. Assumes nothing.
-use mathlib.Core.Path.{_≡_, refl, sym, ap, subst, _∙_}
-use mathlib.Core.List.{List, [], _∷_, map}
-use Rattle.rules.specs.Tree.{Node, view, viewSlot, nodeAt, setNode}
+use mathlib.Core.Path.{refl, sym, ap, _∙_}
+use mathlib.Core.List.{[], _∷_, map}
+use Rattle.rules.specs.Tree.{Node, view, viewSlot}
 use Rattle.rules.specs.Operations as Rule
 use Rattle.rules.specs.declared.operation.DockTarget.{DockTarget}
-use lib.Ieee.{Float}
 use Rattle.rules.specs.Tree.{pane, tabs}
 use Rattle.rules.specs.Insert.{draft, beside}
 use Rattle.rules.specs.declared.model.Axis.the-variants.{Horizontal}

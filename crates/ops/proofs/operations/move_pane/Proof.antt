@@ -1,7 +1,6 @@
 -- `ops::operations::move_pane` goes by the pane, then by the target. Assumes nothing.
-use mathlib.Core.Path.{_≡_, refl, sym, ap, subst, _∙_}
-use mathlib.Core.List.{List, [], _∷_, map}
-use Rattle.rules.specs.Tree.{Node, view, viewSlot, nodeAt, setNode}
+use mathlib.Core.Path.{sym, ap, _∙_}
+use Rattle.rules.specs.Tree.{view}
 use Rattle.rules.specs.Operations as Rule
 use Rattle.rules.specs.Target.{PaneLocation}
 use Rattle.nodes.specs.Parts.{locationOf, checkedOf}

@@ -1,7 +1,7 @@
 -- `ops::operations::reorder_from` goes by where the pane lands. Assumes nothing.
-use mathlib.Core.Path.{_≡_, refl, sym, ap, subst, _∙_}
-use mathlib.Core.List.{List, [], _∷_, map}
-use Rattle.rules.specs.Tree.{Node, view, viewSlot, nodeAt, setNode}
+use mathlib.Core.Path.{sym, ap, _∙_}
+use mathlib.Core.List.{map}
+use Rattle.rules.specs.Tree.{Node, view, viewSlot, setNode}
 use Rattle.rules.specs.Operations as Rule
 use mathlib.Core.Option.{some}
 use Rattle.ops.specs.Steps.{reorderAs}

@@ -1,13 +1,11 @@
 -- `ops::operations::reorder_in` goes by the pane's place. Assumes nothing.
-use mathlib.Core.Path.{_≡_, refl, sym, ap, subst, _∙_}
-use mathlib.Core.List.{List, [], _∷_, map}
-use Rattle.rules.specs.Tree.{Node, view, viewSlot, nodeAt, setNode}
+use mathlib.Core.Path.{sym, ap, _∙_}
+use Rattle.rules.specs.Tree.{view, viewSlot}
 use Rattle.rules.specs.Operations as Rule
-use mathlib.Core.Option.{Option, none, some}
+use mathlib.Core.Option.{Option}
 use Prim.Native.Nat.{ℕ}
 use lib.Dec.{eqb}
 use Rattle.rules.specs.Lists.{position}
-use Rattle.rules.specs.Tree.{panesOf}
 use Rattle.rules.specs.declared.refusal.Refusal.the-variants.{InvalidPaneId}
 use Rattle.lists.specs.Find.{placeOf}
 use Rattle.ops.specs.Steps.{reorderAs}

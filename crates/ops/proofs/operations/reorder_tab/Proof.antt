@@ -1,7 +1,6 @@
 -- `ops::operations::reorder_tab` goes by the slot's kind. Assumes nothing.
-use mathlib.Core.Path.{_≡_, refl, sym, ap, subst, _∙_}
-use mathlib.Core.List.{List, [], _∷_, map}
-use Rattle.rules.specs.Tree.{Node, view, viewSlot, nodeAt, setNode}
+use mathlib.Core.Path.{refl, ap}
+use Rattle.rules.specs.Tree.{view, viewSlot}
 use Rattle.rules.specs.Operations as Rule
 use Rattle.rules.specs.declared.model.Kind.{Kind}
 use Rattle.rules.specs.Tree.{nodeOf}

@@ -1,6 +1,6 @@
 -- `ops::operations::split_at` meets its contract. Assumes nothing.
-use mathlib.Core.Path.{_≡_, refl, sym, ap, subst, _∙_}
-use Rattle.rules.specs.Tree.{Node, view, viewSlot, nodeAt, setNode}
+use mathlib.Core.Path.{refl, sym, ap}
+use Rattle.rules.specs.Tree.{Node, view}
 use Rattle.rules.specs.Operations as Rule
 use Rattle.rules.specs.Tree.{pane}
 use Rattle.nodes.specs.Parts.{besideOf}

@@ -1,8 +1,8 @@
 -- `ops::operations::split_pane` goes by the fraction, the new pane and the pane. Assumes nothing.
-use mathlib.Core.Path.{_≡_, refl, sym, ap, subst, _∙_}
-use Rattle.rules.specs.Tree.{Node, view, viewSlot, nodeAt, setNode}
+use mathlib.Core.Path.{sym, ap, _∙_}
+use Rattle.rules.specs.Tree.{view}
 use Rattle.rules.specs.Operations as Rule
-use Rattle.nodes.specs.Parts.{locationOf, checkedOf}
+use Rattle.nodes.specs.Parts.{locationOf}
 use borrow.Author.Tests.{not-true, not-false}
 use Rattle.rules.specs.declared.refusal.Refusal.the-variants.{InvalidOperation, InvalidPaneId, DuplicatePane}
 use Rattle.ops.proofs.FinishLaws.{does-refused, does-like}

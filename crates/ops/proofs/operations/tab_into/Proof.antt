@@ -1,6 +1,6 @@
 -- `ops::operations::tab_into` refuses a full group, or puts the pane in. Assumes nothing.
-use mathlib.Core.Path.{_≡_, refl, sym, ap, subst, _∙_}
-use mathlib.Core.List.{List, [], _∷_, map}
+use mathlib.Core.Path.{sym, ap, _∙_}
+use mathlib.Core.List.{map}
 use Rattle.rules.specs.Tree.{Node, view, viewSlot, nodeAt, setNode}
 use Rattle.rules.specs.Operations as Rule
 use Rattle.ops.proofs.FinishLaws.{does-like}

@@ -1,5 +1,5 @@
 -- `ops::whole::apply` refuses an unsound tree, and hands any other to the operation. Assumes nothing.
-use mathlib.Core.Path.{_≡_, refl, sym, ap, subst, _∙_}
+use mathlib.Core.Path.{sym, _∙_}
 use borrow.Author.Tests.{not-true, not-false}
 use Rattle.ops.proofs.WholeLaws.{sound-fit, unsound-applies, sound-applies}
 use borrow.Author.Needs.{needs}

@@ -1,5 +1,5 @@
 -- `ops::whole::apply_inner` goes by the operation. Assumes nothing.
-use mathlib.Core.Path.{_≡_, refl, sym, ap, subst, _∙_}
+use mathlib.Core.Path.{sym, subst}
 use Rattle.rules.specs.Tree.{view}
 use Rattle.rules.specs.Operations.{applyInner}
 use Rattle.rules.specs.declared.operation.TileOp.{TileOp}

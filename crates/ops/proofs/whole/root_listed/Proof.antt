@@ -1,7 +1,7 @@
 -- `ops::whole::root_listed` meets its contract. Assumes nothing.
-use mathlib.Core.Path.{_≡_, refl, sym, ap, subst, _∙_}
+use mathlib.Core.Path.{_≡_, subst}
 use native.Mathlib.Omega.{arith}
-use lib.ListN.{length, getD}
+use lib.ListN.{length}
 use Rattle.rules.specs.declared.model.Slot.{Slot}
 use Rattle.lists.specs.Places.{getD-any}
 use borrow.Author.Needs.{needs}
