@@ -11,8 +11,8 @@ ghost use Prim.Native.Nat.{_<_};
 ghost use lib.Dec.{ltb};
 ghost use lib.ListN.{length};
 ghost use Rattle.rules.specs.Lists.{anyOf};
-ghost use Rattle.rules.specs.Tree.{barCode, axisCode, overSlot};
-ghost use Rattle.columns.specs.Pack.{Unpacks, overHead, slotOf, headOf, idsOf, sharesOf, minimaOf};
+ghost use Rattle.rules.specs.Tree.{barCode, axisCode};
+ghost use Rattle.columns.specs.Pack.{Unpacks, overHead, slotOf, headOf, idsOf};
 
 // The number of a group's placement in its head.
 pub fn bar_code(b: TabBarPlacement) -> u64
@@ -100,56 +100,6 @@ fn ids_row(s: Slot) -> [u64; 16]
     }
 }
 
-pub fn heads_of(slots: [Slot; 64]) -> [[u64; 8]; 64]
-    ensures { λ r. ⌜ r ≡ map headOf slots ⌝ }
-{
-    let mut a = [[0u64; 8]; 64];
-    for i in 0..64usize {
-        let s = slots[i];
-        let row = head_of(s);
-        a[i] = row;
-    }
-    a
-}
-
-pub fn ids_of(slots: [Slot; 64]) -> [[u64; 16]; 64]
-    ensures { λ r. ⌜ r ≡ map idsOf slots ⌝ }
-{
-    let mut a = [[0u64; 16]; 64];
-    for i in 0..64usize {
-        let s = slots[i];
-        let row = ids_row(s);
-        a[i] = row;
-    }
-    a
-}
-
-pub fn shares_of(slots: [Slot; 64]) -> [[f64; 16]; 64]
-    ensures { λ r. ⌜ r ≡ map sharesOf slots ⌝ }
-{
-    let mut a = [[0.0f64; 16]; 64];
-    for i in 0..64usize {
-        let s = slots[i];
-        let l = s.shares;
-        let row = l.at;
-        a[i] = row;
-    }
-    a
-}
-
-pub fn minima_of(slots: [Slot; 64]) -> [[f64; 16]; 64]
-    ensures { λ r. ⌜ r ≡ map minimaOf slots ⌝ }
-{
-    let mut a = [[0.0f64; 16]; 64];
-    for i in 0..64usize {
-        let s = slots[i];
-        let l = s.minima;
-        let row = l.at;
-        a[i] = row;
-    }
-    a
-}
-
 // All four columns in one pass.
 pub fn unpack(
     slots: [Slot; 64],
@@ -201,22 +151,6 @@ pub fn heads_over(heads: &[[u64; 8]; 64]) -> bool
     false
 }
 
-fn over_slot(s: Slot) -> bool
-    ensures { λ r. ⌜ r ≡ overSlot s ⌝ }
-{
-    let k = s.kind;
-    let panes = s.panes;
-    let children = s.children;
-    let shares = s.shares;
-    let minima = s.minima;
-    match k {
-        Kind::Empty => false,
-        Kind::Pane(_) => false,
-        Kind::Tabs(_) => 16 < panes.len,
-        Kind::Split(_) => any_over(children.len, shares.len, minima.len),
-    }
-}
-
 // Whether a length of three is over 16.
 fn any_over(a: usize, b: usize, c: usize) -> bool
     ensures { λ r. ⌜ r ≡ (ltb 16 a || ltb 16 b || ltb 16 c) ⌝ }
@@ -228,19 +162,4 @@ fn any_over(a: usize, b: usize, c: usize) -> bool
         return true;
     }
     16 < c
-}
-
-// Whether a list that a kind uses was given longer than 16, so that not all of it is there.
-pub fn over(slots: [Slot; 64]) -> bool
-    ensures { λ r. ⌜ r ≡ anyOf overSlot slots ⌝ }
-{
-    let mut i = 0usize;
-    while i < 64 {
-        let s = slots[i];
-        if over_slot(s) {
-            return true;
-        }
-        i += 1;
-    }
-    false
 }

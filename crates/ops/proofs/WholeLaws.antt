@@ -20,11 +20,11 @@ use Rattle.rules.specs.declared.operation.TileOp.{TileOp}
 use Rattle.rules.specs.declared.refusal.Answer.the-variants.{Refused}
 use Rattle.rules.specs.declared.refusal.Refusal.{Refusal}
 use Rattle.rules.specs.declared.refusal.Refusal.the-variants.{NotSound}
-use Rattle.forest.specs.Quiet.{plainNodes}
-use Rattle.forest.specs.Settled.{Lone, Settled}
+use Rattle.forest.specs.Settled.{Lone}
 use Rattle.lists.specs.Places.{getD-map}
 use Rattle.nodes.specs.Find.{find-scan, parent-scan}
-use Rattle.ops.specs.Trees.{sound-cases, sound-standing}
+use Rattle.forest.specs.SoundCases.{Plain, sound-cases}
+use Rattle.ops.specs.Trees.{sound-standing}
 use Rattle.ops.specs.Steps.{Fit, applied, Does, Refuses}
 use Rattle.ops.specs.declared.Applying.{Applying}
 
@@ -70,8 +70,8 @@ module _ (t : TileTree) (size : length (t .slots) ≡ 64) (listed : (d : Slot) �
   sound-whole : sound (view t) ≡ true → anyOf overSlot (t .slots) ≡ false
   sound-whole e = go (sound-cases (view t) long e)
     where
-      go : (Settled (plainNodes (map viewSlot (t .slots))) (t .root) × (anyOf overSlot (t .slots) ≡ false)) ⊎ Lone (map viewSlot (t .slots)) (t .root) → anyOf overSlot (t .slots) ≡ false
-      go (inl (s, o)) = o
+      go : Plain (view t) ⊎ Lone (map viewSlot (t .slots)) (t .root) → anyOf overSlot (t .slots) ≡ false
+      go (inl p) = p .whole
       go (inr L) = lone-whole L
 
   pub sound-fit : sound (view t) ≡ true → Fit t

@@ -2,32 +2,25 @@
 -- at most is left some slot is empty. Assumes nothing.
 use mathlib.Core.Path.{_≡_, refl, sym, ap, subst, _∙_}
 use mathlib.Core.Logic.{_≢_, _⊎_, inl, inr}
-use mathlib.Core.Bool.{Bool, true, false, not, _&&_, _||_}
+use mathlib.Core.Bool.{Bool, true, false, not}
 use mathlib.Core.List.{List, [], _∷_, _++_}
-use Prim.Native.Nat.{ℕ, zero, suc, _+_, _≤_, _<_}
+use Prim.Native.Nat.{ℕ, zero, suc, _≤_, _<_}
 use native.Mathlib.Omega.{arith}
 use native.Mathlib.Decide.{ℕ-discrete}
-use borrow.Author.Tests.{eqb-true}
-use lib.Dec.{eqb, T}
+use lib.Dec.{T}
 use lib.ListN.{length, getD, length-map, length-append, List·getD-map}
-use lib.Seq.{getD-set-other}
-use Rattle.rules.specs.Lists.{allOf, sameList}
-use Rattle.rules.specs.Tree.{Node, empty, pane, tabs, split, Arena, nodeAt, clearNode, isEmpty, kidsOf, panesOf, emptyBy, emptyFrom, emptySlots, emptyGroup, barCode, reading, readingFrom, sameNode, Member}
+use Rattle.rules.specs.Tree.{Node, empty, pane, tabs, split, Arena, nodeAt, isEmpty, kidsOf, panesOf, emptyBy, emptyFrom, emptySlots, reading, readingFrom, Member}
 use Rattle.rules.specs.Target.{panesAlong, panesIn}
-use Rattle.rules.specs.Sound.{isAccepted, isNone, loneEmptyRoot, sound}
-use Rattle.rules.specs.Repair.{repair}
+use Rattle.rules.specs.Sound.{sound}
 use Rattle.rules.specs.declared.model.TileId.{TileId}
-use Rattle.rules.specs.declared.model.TabBarPlacement.{TabBarPlacement}
-use Rattle.rules.specs.declared.model.TabBarPlacement.the-variants.{Hidden, Top, Bottom, Left, Right}
 use Rattle.forest.specs.Lists.{All, Distinct, never, member-all, member-left, member-right, member-cases, distinct-left, distinct-right, clash}
 use Rattle.forest.specs.Forest.{Forest, nil, leaf, node, roots, tiles, shown, Leafy, Holds}
 use Rattle.forest.specs.Grow.{nothing, group, branch, stem}
 use Rattle.forest.specs.Again.{heads, leafy-kids}
+use Rattle.forest.specs.SoundCases.{Plain, sound-cases}
 use Rattle.forest.specs.Settled.{Lone, Settled, slots, occupied-in}
 use Rattle.forest.specs.Reach.{occupied-reached, read-once, tidy-panes, panes-once}
-use Rattle.forest.specs.Equal.{and-both}
 use Rattle.forest.specs.Quiet.{plainNode, plainNodes}
-use Rattle.forest.specs.SoundIs.{quiet-repair, sound-is}
 use Rattle.nodes.specs.Find.{OneTree}
 
 -- ---- a tile of a forest has one parent
@@ -258,72 +251,13 @@ pub record Standing (ns : List Node) (r : TileId) : Type 0 where
   pub tree : OneTree ns r
   pub room : length (panesIn r ns) ≤ 1 → 0 < length (emptySlots ns)
 
-bar-hidden : (b : TabBarPlacement) → barCode b ≡ 0 → b ≡ Hidden
-bar-hidden Hidden e = refl
-bar-hidden Top e = absurd (omega arith)
-bar-hidden Bottom e = absurd (omega arith)
-bar-hidden Left e = absurd (omega arith)
-bar-hidden Right e = absurd (omega arith)
-
-none-same : (ps : List ℕ) → sameList eqb ps [] ≡ true → ps ≡ []
-unfolding sameList
-none-same [] e = refl
-none-same (p ∷ ps) e = never (sym e)
-
-pub group-is : (n : Node) → sameNode n emptyGroup ≡ true → n ≡ emptyGroup
-group-is empty e = never (sym e)
-group-is (pane p) e = never (sym e)
-group-is (tabs b a ps) e =
-    let (x, y) = and-both (eqb (barCode b) 0 && eqb a 0) (sameList eqb ps []) e in
-    let (u, v) = and-both (eqb (barCode b) 0) (eqb a 0) x in
-    λ z. tabs (bar-hidden b (eqb-true (barCode b) 0 u) z) (eqb-true a 0 v z) (none-same ps y z)
-group-is (split x cs ss ms) e = never (sym e)
-
-empty-is : (n : Node) → isEmpty n ≡ true → n ≡ empty
-empty-is empty e = refl
-empty-is (pane p) e = never (sym e)
-empty-is (tabs b a ps) e = never (sym e)
-empty-is (split a cs ss ms) e = never (sym e)
-
-all-empty : (ns : List Node) → allOf isEmpty ns ≡ true → (i : ℕ) → getD ns i empty ≡ empty
-unfolding allOf
-all-empty [] e i = refl
-all-empty (n ∷ ns) e zero = empty-is n (and-both (isEmpty n) (allOf isEmpty ns) e .0)
-all-empty (n ∷ ns) e (suc i) = all-empty ns (and-both (isEmpty n) (allOf isEmpty ns) e .1) i
-
-below : (ns : List Node) (i : ℕ) → getD ns i empty ≡ emptyGroup → i < length ns
-below [] i e = absurd (let z : _≡_ {A = ℕ} 0 1 = cc in omega arith)
-below (n ∷ ns) zero e = omega arith
-below (n ∷ ns) (suc i) e = let h = below ns i e in omega arith
-
-pub lone-is : (a : Arena) → length (a .nodes) ≡ 64 → loneEmptyRoot a ≡ true → Lone (a .nodes) (a .root)
-lone-is a size e =
-    let (x, y) = and-both (sameNode (nodeAt (a .nodes) (a .root)) emptyGroup) (allOf isEmpty (clearNode (a .root) (a .nodes))) e in
-    let is = group-is (nodeAt (a .nodes) (a .root)) x in
-    record {
-      size = size;
-      inside = let h = below (a .nodes) (a .root .slot) is in omega arith;
-      is = is;
-      rest = λ i n. sym (getD-set-other (a .nodes) (a .root .slot) i empty empty n) ∙ all-empty (clearNode (a .root) (a .nodes)) y i;
-    }
-
--- a sound arena is given whole and settled, but for the signs of zeros; or it is a lone empty root
-pub sound-cases : (a : Arena) → length (a .nodes) ≡ 64 → sound a ≡ true → (Settled (plainNodes (a .nodes)) (a .root) × (a .over ≡ false)) ⊎ Lone (a .nodes) (a .root)
-sound-cases a size e = go (isAccepted (repair a .answer)) (isNone (repair a .actions)) refl refl (sym (sound-is a size) ∙ e)
-  where
-    go : (t n : Bool) → isAccepted (repair a .answer) ≡ t → isNone (repair a .actions) ≡ n → ((isAccepted (repair a .answer) && isNone (repair a .actions)) || loneEmptyRoot a) ≡ true
-        → (Settled (plainNodes (a .nodes)) (a .root) × (a .over ≡ false)) ⊎ Lone (a .nodes) (a .root)
-    go true true p q w = let (x, y, z, o) = quiet-repair a size p q in inl (z, o)
-    go true false p q w = inr (lone-is a size ((λ z. (sym p z && sym q z) || loneEmptyRoot a) ∙ w))
-    go false n p q w = inr (lone-is a size ((λ z. (sym p z && isNone (repair a .actions)) || loneEmptyRoot a) ∙ w))
-
 pub sound-standing : (a : Arena) → length (a .nodes) ≡ 64 → sound a ≡ true → Standing (a .nodes) (a .root)
 sound-standing a size e = go (sound-cases a size e)
   where
-    go : (Settled (plainNodes (a .nodes)) (a .root) × (a .over ≡ false)) ⊎ Lone (a .nodes) (a .root) → Standing (a .nodes) (a .root)
-    go (inl (s, o)) =
+    go : Plain a ⊎ Lone (a .nodes) (a .root) → Standing (a .nodes) (a .root)
+    go (inl p) =
         record {
-          tree = plain-tree (a .nodes) (a .root) (settled-tree (plainNodes (a .nodes)) (a .root) s);
-          room = λ h. subst (λ (l : List ℕ). 0 < length l) (empties-like (a .nodes) 0) (settled-room (plainNodes (a .nodes)) (a .root) s (subst (λ (l : List ℕ). length l ≤ 1) (sym (plain-panes (a .nodes) (a .root))) h));
+          tree = plain-tree (a .nodes) (a .root) (settled-tree (plainNodes (a .nodes)) (a .root) (p .settled));
+          room = λ h. subst (λ (l : List ℕ). 0 < length l) (empties-like (a .nodes) 0) (settled-room (plainNodes (a .nodes)) (a .root) (p .settled) (subst (λ (l : List ℕ). length l ≤ 1) (sym (plain-panes (a .nodes) (a .root))) h));
         }
     go (inr L) = record { tree = settled-tree (a .nodes) (a .root) (inr L); room = settled-room (a .nodes) (a .root) (inr L) }

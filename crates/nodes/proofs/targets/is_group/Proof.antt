@@ -2,7 +2,7 @@
 use Rattle.rules.specs.Tree.{nodeOf}
 use Rattle.rules.specs.Target.{aGroup}
 use Rattle.rules.specs.declared.model.Kind.{Kind}
-use mathlib.Core.Path.{_≡_, refl, sym, ap, subst, _∙_}
+use mathlib.Core.Path.{sym, ap}
 use borrow.Author.Needs.{needs}
 use Rattle.nodes.proofs.targets.is_group.Statement.{statement}
 use Rattle.nodes.proofs.targets.is_group.Tie as tie

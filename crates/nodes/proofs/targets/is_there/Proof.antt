@@ -1,7 +1,7 @@
 -- `nodes::targets::is_there` goes by one test. Assumes nothing.
 use Rattle.rules.specs.Tree.{viewSlot}
 use Rattle.nodes.proofs.SlotLaws.{there, absent}
-use mathlib.Core.Path.{_≡_, refl, sym, ap, subst, _∙_}
+use mathlib.Core.Path.{sym, _∙_}
 use borrow.Author.Needs.{needs}
 use Rattle.nodes.proofs.targets.is_there.Statement.{statement}
 use Rattle.nodes.proofs.targets.is_there.Tie as tie

@@ -3,7 +3,7 @@ use mathlib.Core.List.{map}
 use Rattle.rules.specs.Tree.{viewSlot}
 use Rattle.rules.specs.Target.{existing, aGroup, validateTarget}
 use Rattle.nodes.proofs.SlotLaws.{ratio-good, ratio-bad, target-root, target-group}
-use mathlib.Core.Path.{_≡_, refl, sym, ap, subst, _∙_}
+use mathlib.Core.Path.{sym, ap, _∙_}
 use borrow.Author.Needs.{needs}
 use Rattle.nodes.proofs.targets.validate_target.Statement.{statement}
 use Rattle.nodes.proofs.targets.validate_target.Tie as tie
