@@ -1,7 +1,7 @@
 -- Theorems about operations, of the rules alone: what `apply` hands back is the tree as given, or, accepted and changed, a sound tree whose revision is one higher.
 -- Assumes nothing.
 use mathlib.Core.Path.{_≡_, refl, sym, ap, subst, _∙_}
-use mathlib.Core.Logic.{_⊎_, inl, inr}
+use mathlib.Core.Logic.{_⊎_, inl, inr, _↔_}
 use mathlib.Core.Bool.{Bool, true, false}
 use mathlib.Core.List.{List, [], _∷_}
 use mathlib.Core.Option.{Option, none, some}
@@ -12,7 +12,7 @@ use lib.ListN.{length, getElem?, drop, length-set}
 use lib.Ieee.{Float}
 use Rattle.rules.specs.Numbers.{half-f, isValidSplitFraction}
 use Rattle.rules.specs.Lists.{anyOf, position}
-use Rattle.rules.specs.Tree.{Node, empty, pane, tabs, split, Arena, view, nodeAt, setNode, emptySlots, wideNode, sameTile}
+use Rattle.rules.specs.Tree.{Node, empty, pane, tabs, split, Arena, view, nodeAt, setNode, emptySlots, wideNode, sameTile, Occupied, Reached}
 use Rattle.rules.specs.Repair.{Normal, normalize}
 use Rattle.rules.specs.Sound.{sound}
 use Rattle.rules.specs.Target.{PaneLocation, nowhere, inTile, inTabs, Parent, containsPane, validateTarget}
@@ -35,7 +35,7 @@ use Rattle.rules.specs.declared.refusal.Refusal.{Refusal}
 use Rattle.rules.specs.declared.refusal.Refusal.the-variants.{ArenaFull, TooWide, NotSound, RevisionExhausted}
 use Rattle.forest.specs.Lists.{All}
 use Rattle.forest.specs.Settled.{settled}
-use Rattle.forest.specs.Soundness.{Finished, finished-sound, slots-inside}
+use Rattle.forest.specs.Soundness.{Finished, finished-sound, finished-reached, slots-inside}
 use Rattle.ops.specs.Steps.{applied}
 use Rattle.ops.specs.declared.Applying.{Applying}
 
@@ -216,6 +216,10 @@ module _ (a : Arena) (size : length (a .nodes) ≡ 64) where
       go : (b : Bool) → Declined (applyBy b a op) ⊎ (Idle op (applyBy b a op) ⊎ Advanced (applyBy b a op))
       go true = by (applyInner a op) refl (inner-shape op)
       go false = inl (NotSound, refl)
+
+  -- after a change the occupied slots are exactly those that are reached from the root
+  pub changed-reached : (op : TileOp) → Advanced (apply a op) → (i : ℕ) → Occupied (apply a op .tree) i ↔ Reached (apply a op .tree) i
+  changed-reached op v = finished-reached (apply a op .tree) (v .finished)
 
   -- so the tree of a sound tree stays sound, whatever is asked of it
   pub apply-sound : (op : TileOp) → sound a ≡ true → sound (apply a op .tree) ≡ true
