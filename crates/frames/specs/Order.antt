@@ -1,6 +1,6 @@
 -- The lists of a frame that follow the reading order: the focus order is the panes of the tree, each once; the pane list has each plain pane and each
 -- group's active pane once. And a nesting of 64 is enough. Assumes nothing.
-use mathlib.Core.Path.{_≡_, refl, sym, ap, _∙_}
+use mathlib.Core.Path.{_≡_, refl, sym, ap, subst, _∙_}
 use mathlib.Core.Logic.{_⊎_, inl, inr}
 use mathlib.Core.Bool.{Bool, true, false}
 use mathlib.Core.List.{List, [], _∷_, _++_, map, append-assoc, append-nil}
@@ -30,6 +30,8 @@ use Rattle.forest.specs.Forest.{Forest, nil, leaf, node, roots, tiles, Leafy, H
 use Rattle.forest.specs.Grow.{Left, nothing, group, branch, keptOf, stem}
 use Rattle.forest.specs.Again.{names}
 use Rattle.forest.specs.Depth.{Within, nested-within}
+use Rattle.forest.specs.Lists.{Distinct}
+use Rattle.forest.specs.Reach.{panes-once}
 use Rattle.forest.specs.Quiet.{plainNode, plainNodes}
 use Rattle.forest.specs.Settled.{Lone, Settled, reads}
 use Rattle.forest.specs.SoundCases.{Plain, sound-cases}
@@ -285,3 +287,16 @@ shown-plain (split a cs ss ms) = refl
 -- the pane list has, in reading order, each plain pane and each group's active pane
 pub pane-order : (a : Arena) (i : LayoutInput) → length (a .nodes) ≡ 64 → sound a ≡ true → gather paneId (layoutItems a i) ≡ along shownOf (a .nodes) (readingFrom (a .nodes) (a .root))
 pane-order a i size e = sound-along paneId shownOf pane-leafwise refl shown-plain a i size e
+
+-- and each pane stands in the focus order once
+pub focus-once : (a : Arena) (i : LayoutInput) → length (a .nodes) ≡ 64 → sound a ≡ true → Distinct (gather focusOf (layoutItems a i))
+unfolding gather
+focus-once a i size e = go (sound-cases a size e)
+  where
+    go : Plain a ⊎ Lone (a .nodes) (a .root) → Distinct (gather focusOf (layoutItems a i))
+    go (inl p) =
+        let ns = plainNodes (a .nodes) in
+        subst Distinct
+        (sym (ap (gather focusOf) (sym (layout-plain 64 (a .nodes) i (a .root) (i .bounds))) ∙ settled-along focusOf panesOf focus-leafwise refl panes-plain a i size ns (p .settled) ∙ panes-along ns (readingFrom ns (a .root))))
+        (panes-once ns (a .root) (a .revision) (p .settled))
+    go (inr l) = subst (λ (xs : List Item). Distinct (gather focusOf xs)) (sym (lone-none (a .nodes) (a .root) i (i .bounds) l)) tt
