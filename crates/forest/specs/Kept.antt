@@ -56,7 +56,7 @@ few-marked cs (x ∷ xs) n e h o d =
     let ih = few-marked (set cs x true) xs n (length-set cs x true ∙ e) (h .1) (unset cs x xs (d .0) (o .1)) (d .1) in
     let one = free-set cs x (let k = h .0 in omega (arith, e, k)) (o .0) in omega (arith, ih, one)
 
-repaired-length : (n : ℕ) (xs : List Float) → length (repairedShares n xs) ≡ n
+pub repaired-length : (n : ℕ) (xs : List Float) → length (repairedShares n xs) ≡ n
 unfolding repairedShares
 repaired-length n xs = by (eqb (length xs) n) refl
   where
@@ -68,7 +68,7 @@ repaired-length n xs = by (eqb (length xs) n) refl
     by true e = good (anyOf shareOk xs) (eqb-true (length xs) n e)
     by false e = length-replicate n one-f
 
-entries-children : (cs : List TileId) (ss ms : List Float) → length ss ≡ length cs → length ms ≡ length cs → childrenOf (entries cs ss ms) ≡ cs
+pub entries-children : (cs : List TileId) (ss ms : List Float) → length ss ≡ length cs → length ms ≡ length cs → childrenOf (entries cs ss ms) ≡ cs
 unfolding entries
 entries-children [] ss ms e q = refl
 entries-children (c ∷ cs) [] ms e q = absurd (omega arith)
@@ -82,7 +82,7 @@ pub record Told (w v : State) (ts ps : List ℕ) : Type 0 where
   pub sees : v .panes ≡ w .panes ++ ps
 
 -- the same claims and panes
-abbrev Alike : State → State → Type 0
+abbrev pub Alike : State → State → Type 0
 Alike v u = (u .claimed ≡ v .claimed) × (u .panes ≡ v .panes)
 
 told-alike : (w v u : State) (ts ps : List ℕ) → Told w v ts ps → Alike v u → Told w u ts ps
@@ -103,16 +103,16 @@ place-by : (b : Bool) (e : Entry) (c : TileId) (n : Node) (r : Run) (w : Work) �
 place-by true e c n r w = (refl, refl)
 place-by false e c n r w = (refl, refl)
 
-place-alike : (a : Axis) (e : Entry) (k : Option TileId) (r : Run) (w : Work) → Alike (w .state) (place a e k r w .left .state)
+pub place-alike : (a : Axis) (e : Entry) (k : Option TileId) (r : Run) (w : Work) → Alike (w .state) (place a e k r w .left .state)
 place-alike a e none r w = (refl, refl)
 place-alike a e (some c) r w = place-by (melts a (e .minimum) (nodeAt (w .state .nodes) c)) e c (nodeAt (w .state .nodes) c) r w
 
-split-alike : (i : TileId) (a : Axis) (old : List Float) (es : List Entry) (r : Run) → Alike (r .left .state) (splitLeft i a old es r .work .state)
+pub split-alike : (i : TileId) (a : Axis) (old : List Float) (es : List Entry) (r : Run) → Alike (r .left .state) (splitLeft i a old es r .work .state)
 split-alike i a old [] r = (refl, refl)
 split-alike i a old (e ∷ []) r = (refl, refl)
 split-alike i a old (e ∷ f ∷ es) r = (refl, refl)
 
-group-alike : (i : TileId) (b : TabBarPlacement) (a : ℕ) (ps qs : List ℕ) (w : Work) → Alike (w .state) (groupLeft i b a ps qs w .work .state)
+pub group-alike : (i : TileId) (b : TabBarPlacement) (a : ℕ) (ps qs : List ℕ) (w : Work) → Alike (w .state) (groupLeft i b a ps qs w .work .state)
 group-alike i b a ps [] w = (refl, refl)
 group-alike i b a ps (q ∷ qs) w = (refl, refl)
 

@@ -21,3 +21,5 @@ pub mod Seen
 pub mod Loose
 pub mod Kept
 pub mod Still
+pub mod Closed
+pub mod Stays

@@ -3,3 +3,10 @@ pub mod Trees
 pub mod Near
 pub mod Steps
 pub mod Theorems
+pub mod Spots
+pub mod Removal
+pub mod Graft
+pub mod GraftSplit
+pub mod Fates
+pub mod Moves
+pub mod PaneTheorems

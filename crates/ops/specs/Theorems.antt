@@ -42,7 +42,7 @@ use Rattle.ops.specs.declared.Applying.{Applying}
 -- ---- a change keeps the number of slots, and its free slots are slots
 
 module _ (a : Arena) (size : length (a .nodes) ≡ 64) where
-  abbrev Shape : Step → Type 0
+  abbrev pub Shape : Step → Type 0
   Shape (refuse e) = Unit {0}
   Shape unchanged = Unit {0}
   Shape (changed c) = (length (c .made .nodes) ≡ 64) × All (λ i. i < 64) (c .free)
@@ -146,7 +146,7 @@ module _ (a : Arena) (size : length (a .nodes) ≡ 64) where
       go (some from) = by (eqb from (Rule.landing from i ps)) (Rule.reordered ps p from (Rule.landing from i ps))
   reorder-shape (split x cs ss ms) g p i = tt
 
-  inner-shape : (op : TileOp) → Shape (applyInner a op)
+  pub inner-shape : (op : TileOp) → Shape (applyInner a op)
   unfolding applyInner
   inner-shape (ActivatePane p) = activate-shape (whereIs a p)
   inner-shape (ClosePane p) = close-shape (whereIs a p)
