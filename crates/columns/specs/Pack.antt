@@ -60,6 +60,16 @@ pub record Unpacks (s : List Slot) (hs xs : List (List ℕ)) (ss ms : List (List
 abbrev pub overHead : List ℕ → Bool
 overHead h = ltb 16 (getD h 4 0) || ltb 16 (getD h 5 0) || ltb 16 (getD h 6 0)
 
+-- the same of the lists that the head's kind uses
+abbrev pub overKind : ℕ → List ℕ → Bool
+overKind zero h = false
+overKind (suc zero) h = false
+overKind (suc (suc zero)) h = ltb 16 (getD h 4 0)
+overKind (suc (suc (suc n))) h = overHead h
+
+abbrev pub overOf : List ℕ → Bool
+overOf h = overKind (getD h 0 0) h
+
 -- ---- the sweep
 
 -- a head that is not claimed becomes that of an empty slot

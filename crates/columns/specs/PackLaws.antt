@@ -6,7 +6,7 @@ use Prim.Native.Nat.{ℕ, zero, suc, _+_, _≤_, _<_}
 use native.Mathlib.Omega.{arith}
 use native.Mathlib.Nat.{not-suc-le-zero, le-of-suc-le-suc}
 use native.Mathlib.Numerals.{add-one}
-use borrow.Author.Tests.{ltb-false, le-ltb, ne-eqb, eq-eqb, not-true, not-false}
+use borrow.Author.Tests.{ltb-false, ne-eqb, eq-eqb, not-true, not-false}
 use lib.Dec.{eqb, ltb}
 use lib.Ieee.{Float}
 use lib.ListN.{length, take, drop, getD, set, replicate, length-set, length-map, length-replicate, drop-of-length-le}
@@ -28,9 +28,10 @@ use Rattle.forest.specs.Still.{noneLost}
 use Rattle.forest.specs.Sweep.{sweptBy, actionsBy}
 use Rattle.lists.specs.Tests.{Flagged, flagged-more}
 use Rattle.columns.specs.Columns.{barFrom, axisFrom, nodeBy, nodeFrom, nodesFrom, codeOf, Lists, Noted, Slim}
-use Rattle.columns.specs.Pack.{headBy, headOf, slotOf, idsBy, idsOf, sharesOf, minimaOf, sweptHead, Sweeps, actionBy, actionFrom, listedFrom, actionOf, Unpacks, overHead, firstOf, NoneLost}
+use Rattle.columns.specs.Pack.{headBy, headOf, slotOf, idsBy, idsOf, sharesOf, minimaOf, sweptHead, Sweeps, actionBy, actionFrom, listedFrom, actionOf, Unpacks, overHead, overOf, overKind, firstOf, NoneLost}
 use Rattle.columns.specs.declared.Listed.{Listed}
 use Rattle.columns.specs.ColumnLaws.{nodes-long, nodes-at, split-of}
+use Rattle.columns.specs.OverLaws.{over-split, any-alike}
 
 -- ---- a loop that fills an array from the front with the entries of another list
 
@@ -166,14 +167,14 @@ tiles-take zero xs = refl
 tiles-take (suc n) [] = refl
 tiles-take (suc n) (x ∷ xs) = ap (λ (l : List TileId). tile x ∷ l) (tiles-take n xs)
 
--- the slot that is made shows its row, and has no list too long
+-- the slot that is made shows its row, and has a list too long where the row has
 module _ (s : Slot) (h xs : List ℕ) (ss ms : List Float) where
   abbrev pub Made : Type 0
-  Made = (viewSlot s ≡ nodeFrom h xs ss ms) × (overSlot s ≡ false)
+  Made = (viewSlot s ≡ nodeFrom h xs ss ms) × (overSlot s ≡ overOf h)
 
-  made-by : (k : ℕ) (x : Kind) → getD h 0 0 ≡ k → s .kind ≡ x → nodeOf x s ≡ nodeBy k h xs ss ms → overBy x s ≡ false → Made
+  made-by : (k : ℕ) (x : Kind) → getD h 0 0 ≡ k → s .kind ≡ x → nodeOf x s ≡ nodeBy k h xs ss ms → overBy x s ≡ overKind k h → Made
   made-by k x e i v o =
-      (ap (λ (y : Kind). nodeOf y s) i ∙ v ∙ ap (λ (n : ℕ). nodeBy n h xs ss ms) (sym e), ap (λ (y : Kind). overBy y s) i ∙ o)
+      (ap (λ (y : Kind). nodeOf y s) i ∙ v ∙ ap (λ (n : ℕ). nodeBy n h xs ss ms) (sym e), ap (λ (y : Kind). overBy y s) i ∙ o ∙ ap (λ (n : ℕ). overKind n h) (sym e))
 
   pub made-empty : getD h 0 0 ≡ 0 → s .kind ≡ Empty → Made
   made-empty e i = made-by 0 Empty e i refl refl
@@ -181,62 +182,50 @@ module _ (s : Slot) (h xs : List ℕ) (ss ms : List Float) where
   pub made-pane : getD h 0 0 ≡ 1 → s .kind ≡ Pane (getD h 2 0) → Made
   made-pane e i = made-by 1 (Pane (getD h 2 0)) e i refl refl
 
-  pub made-group : getD h 0 0 ≡ 2 → (viewSlot s ≡ Node.tabs (barFrom (getD h 1 0)) (getD h 3 0) (take (getD h 4 0) xs)) × (overSlot s ≡ false) → Made
-  made-group e g = (g .0 ∙ ap (λ (n : ℕ). nodeBy n h xs ss ms) (sym e), g .1)
+  pub made-group : getD h 0 0 ≡ 2 → (viewSlot s ≡ Node.tabs (barFrom (getD h 1 0)) (getD h 3 0) (take (getD h 4 0) xs)) × (overSlot s ≡ ltb 16 (getD h 4 0)) → Made
+  made-group e g = (g .0 ∙ ap (λ (n : ℕ). nodeBy n h xs ss ms) (sym e), g .1 ∙ ap (λ (n : ℕ). overKind n h) (sym e))
 
   pub made-split : (getD h 0 0 ≡ 0 → ⊥) → (getD h 0 0 ≡ 1 → ⊥) → (getD h 0 0 ≡ 2 → ⊥)
-      → (viewSlot s ≡ Node.split (axisFrom (getD h 1 0)) (map tile (take (getD h 4 0) xs)) (take (getD h 5 0) ss) (take (getD h 6 0) ms)) × (overSlot s ≡ false) → Made
-  made-split z o t g = (g .0 ∙ sym (split-of (getD h 0 0) h xs ss ms z o t), g .1)
+      → (viewSlot s ≡ Node.split (axisFrom (getD h 1 0)) (map tile (take (getD h 4 0) xs)) (take (getD h 5 0) ss) (take (getD h 6 0) ms)) × (overSlot s ≡ overHead h) → Made
+  made-split z o t g = (g .0 ∙ sym (split-of (getD h 0 0) h xs ss ms z o t), g .1 ∙ sym (over-split (getD h 0 0) h z o t))
 
   -- a group and a split, from what their fields are
   pub group-made : (b : TabBarPlacement) → s .kind ≡ Tabs b → b ≡ barFrom (getD h 1 0) → s .active ≡ getD h 3 0 → s .panes .at ≡ xs → s .panes .len ≡ getD h 4 0
-      → getD h 4 0 ≤ 16 → (viewSlot s ≡ Node.tabs (barFrom (getD h 1 0)) (getD h 3 0) (take (getD h 4 0) xs)) × (overSlot s ≡ false)
-  group-made b i e a x n few = (
+      → (viewSlot s ≡ Node.tabs (barFrom (getD h 1 0)) (getD h 3 0) (take (getD h 4 0) xs)) × (overSlot s ≡ ltb 16 (getD h 4 0))
+  group-made b i e a x n = (
     ap (λ (y : Kind). nodeOf y s) i ∙ (λ z. Node.tabs (e z) (a z) (take (n z) (x z))),
-    ap (λ (y : Kind). overBy y s) i ∙ le-ltb 16 (s .panes .len) (omega arith),
+    ap (λ (y : Kind). overBy y s) i ∙ ap (ltb 16) n,
   )
 
   pub split-made : (a : Axis) → s .kind ≡ Split a → a ≡ axisFrom (getD h 1 0) → s .children .at ≡ map tile xs → s .children .len ≡ getD h 4 0
-      → s .shares .at ≡ ss → s .shares .len ≡ getD h 5 0 → s .minima .at ≡ ms → s .minima .len ≡ getD h 6 0 → Slim h
-      → (viewSlot s ≡ Node.split (axisFrom (getD h 1 0)) (map tile (take (getD h 4 0) xs)) (take (getD h 5 0) ss) (take (getD h 6 0) ms)) × (overSlot s ≡ false)
-  split-made a i e c n g p m q few = (
+      → s .shares .at ≡ ss → s .shares .len ≡ getD h 5 0 → s .minima .at ≡ ms → s .minima .len ≡ getD h 6 0
+      → (viewSlot s ≡ Node.split (axisFrom (getD h 1 0)) (map tile (take (getD h 4 0) xs)) (take (getD h 5 0) ss) (take (getD h 6 0) ms)) × (overSlot s ≡ overHead h)
+  split-made a i e c n g p m q = (
     ap (λ (y : Kind). nodeOf y s) i ∙ (λ z. Node.split (e z) (take (n z) (c z)) (take (p z) (g z)) (take (q z) (m z)))
         ∙ ap (λ (l : List TileId). Node.split (axisFrom (getD h 1 0)) l (take (getD h 5 0) ss) (take (getD h 6 0) ms)) (tiles-take (getD h 4 0) xs),
     ap (λ (y : Kind). overBy y s) i
-        ∙ (λ z. le-ltb 16 (s .children .len) (omega (arith, few .0)) z || le-ltb 16 (s .shares .len) (omega (arith, few .1)) z || le-ltb 16 (s .minima .len) (omega (arith, few .2)) z),
+        ∙ (λ z. ltb 16 (n z) || ltb 16 (p z) || ltb 16 (q z)),
   )
-
-over-set : (ss : List Slot) (i : ℕ) (s : Slot) → overSlot s ≡ false → anyOf overSlot ss ≡ false → anyOf overSlot (set ss i s) ≡ false
-unfolding anyOf
-over-set [] i s e h = h
-over-set (x ∷ ss) zero s e h = ap (λ (b : Bool). b || anyOf overSlot ss) e ∙ or-right (overSlot x) (anyOf overSlot ss) h
-over-set (x ∷ ss) (suc i) s e h =
-    λ z. or-left (overSlot x) (anyOf overSlot ss) h z || over-set ss i s e (or-right (overSlot x) (anyOf overSlot ss) h) z
-
-over-none : (n : ℕ) (s : Slot) → overSlot s ≡ false → anyOf overSlot (replicate n s) ≡ false
-unfolding anyOf
-over-none zero s e = refl
-over-none (suc n) s e = λ z. e z || over-none n s e z
 
 module _ (hs xs : List (List ℕ)) (ss ms : List (List Float)) where
   -- the first i slots are packed
   pub record Packing (i : ℕ) (a : List Slot) : Type 0 where
     pub within : i ≤ 64
     pub shown : Copied (nodesFrom hs xs ss ms) i (map viewSlot a)
-    pub few : anyOf overSlot a ≡ false
+    pub over : Copied (map overOf hs) i (map overSlot a)
     pub heads : length hs ≡ 64
     pub ids : length xs ≡ 64
     pub shares : length ss ≡ 64
     pub minima : length ms ≡ 64
 
-  pub packing-start : (s : Slot) → s .kind ≡ Empty → length hs ≡ 64 → length xs ≡ 64 → length ss ≡ 64 → length ms ≡ 64 → Packing 0 (replicate 64 s)
-  packing-start s k lh lx ls lm =
+  pub packing-start : (s : Slot) → length hs ≡ 64 → length xs ≡ 64 → length ss ≡ 64 → length ms ≡ 64 → Packing 0 (replicate 64 s)
+  packing-start s lh lx ls lm =
       record {
         within = omega arith;
         shown =
             copied-none (nodesFrom hs xs ss ms) (map viewSlot (replicate 64 s))
             (length-map (replicate 64 s) viewSlot ∙ length-replicate 64 s ∙ sym (nodes-long hs xs ss ms lh lx ls lm));
-        few = over-none 64 s (ap (λ (y : Kind). overBy y s) k);
+        over = mapped-none overOf hs 64 lh (map overSlot (replicate 64 s)) (length-map (replicate 64 s) overSlot ∙ length-replicate 64 s);
         heads = lh;
         ids = lx;
         shares = ls;
@@ -253,17 +242,19 @@ module _ (hs xs : List (List ℕ)) (ss ms : List (List Float)) where
             (copied-more (nodesFrom hs xs ss ms) (map viewSlot a) i empty (viewSlot s) (P .shown)
             (omega (arith, nodes-long hs xs ss ms (P .heads) (P .ids) (P .shares) (P .minima)))
             (m .0 ∙ sym (nodes-at hs xs ss ms (P .heads) (P .ids) (P .shares) (P .minima) i)));
-        few = over-set a i s (m .1) (P .few);
+        over =
+            subst (λ (l : List Bool). Copied (map overOf hs) (i + 1) l) (sym (map-set overSlot a i s))
+            (mapped-more overOf hs 64 (P .heads) (map overSlot a) i [] false (overSlot s) (P .over) lt (m .1));
         heads = P .heads;
         ids = P .ids;
         shares = P .shares;
         minima = P .minima;
       }
 
-  pub packing-all : (i : ℕ) (a : List Slot) → Packing i a → 64 ≤ i → (map viewSlot a ≡ nodesFrom hs xs ss ms) × (anyOf overSlot a ≡ false)
+  pub packing-all : (i : ℕ) (a : List Slot) → Packing i a → 64 ≤ i → (map viewSlot a ≡ nodesFrom hs xs ss ms) × (anyOf overSlot a ≡ anyOf overOf hs)
   packing-all i a P le = (
     copied-all (nodesFrom hs xs ss ms) (map viewSlot a) i (P .shown) (omega (arith, nodes-long hs xs ss ms (P .heads) (P .ids) (P .shares) (P .minima))),
-    P .few,
+    any-alike overSlot overOf a hs (mapped-all overOf hs 64 (P .heads) (map overSlot a) i (P .over) le),
   )
 
 -- ---- the sweep, over the heads alone: whether a slot is empty stands in its head

@@ -8,13 +8,13 @@ use rules::model::TabBarPlacement;
 use rules::model::TileId;
 use rules::model::Tiles;
 ghost use mathlib.Core.Path.{_≡_};
-ghost use mathlib.Core.Bool.{false};
-ghost use mathlib.Core.List.{[], map};
-ghost use Prim.Native.Nat.{ℕ, _≤_};
+ghost use mathlib.Core.List.{map};
+ghost use lib.Dec.{ltb};
 ghost use lib.ListN.{length, getD, take};
 ghost use Rattle.rules.specs.Lists.{anyOf};
 ghost use Rattle.rules.specs.Tree.{Node, tile, viewSlot, overSlot};
-ghost use Rattle.columns.specs.Columns.{barFrom, axisFrom, nodeFrom, nodesFrom, Slim};
+ghost use Rattle.columns.specs.Columns.{barFrom, axisFrom, nodeFrom, nodesFrom};
+ghost use Rattle.columns.specs.Pack.{overHead, overOf};
 
 fn bar_of(mode: u64) -> TabBarPlacement
     ensures { λ r. ⌜ r ≡ barFrom mode ⌝ }
@@ -78,8 +78,7 @@ pub fn bare_slot(kind: Kind) -> Slot
 }
 
 fn group_slot(h: [u64; 8], row: [u64; 16]) -> Slot
-    requires { ⌜ getD h 4 0 ≤ 16 ⌝ }
-    ensures { λ r. ⌜ (viewSlot r ≡ Node.tabs (barFrom (getD h 1 0)) (getD h 3 0) (take (getD h 4 0) row)) × (overSlot r ≡ false) ⌝ }
+    ensures { λ r. ⌜ (viewSlot r ≡ Node.tabs (barFrom (getD h 1 0)) (getD h 3 0) (take (getD h 4 0) row)) × (overSlot r ≡ ltb 16 (getD h 4 0)) ⌝ }
 {
     let bar = bar_of(h[1]);
     let mut s = bare_slot(Kind::Tabs(bar));
@@ -93,8 +92,7 @@ fn group_slot(h: [u64; 8], row: [u64; 16]) -> Slot
 }
 
 fn split_slot(h: [u64; 8], row: [u64; 16], shares: [f64; 16], minima: [f64; 16]) -> Slot
-    requires { ⌜ Slim h ⌝ }
-    ensures { λ r. ⌜ (viewSlot r ≡ Node.split (axisFrom (getD h 1 0)) (map tile (take (getD h 4 0) row)) (take (getD h 5 0) shares) (take (getD h 6 0) minima)) × (overSlot r ≡ false) ⌝ }
+    ensures { λ r. ⌜ (viewSlot r ≡ Node.split (axisFrom (getD h 1 0)) (map tile (take (getD h 4 0) row)) (take (getD h 5 0) shares) (take (getD h 6 0) minima)) × (overSlot r ≡ overHead h) ⌝ }
 {
     let axis = axis_of(h[1]);
     let mut s = bare_slot(Kind::Split(axis));
@@ -119,8 +117,7 @@ fn split_slot(h: [u64; 8], row: [u64; 16], shares: [f64; 16], minima: [f64; 16])
 
 // The slot that a row of the columns shows.
 fn slot_of(h: [u64; 8], row: [u64; 16], shares: [f64; 16], minima: [f64; 16]) -> Slot
-    requires { ⌜ Slim h ⌝ }
-    ensures { λ r. ⌜ (viewSlot r ≡ nodeFrom h row shares minima) × (overSlot r ≡ false) ⌝ }
+    ensures { λ r. ⌜ (viewSlot r ≡ nodeFrom h row shares minima) × (overSlot r ≡ overOf h) ⌝ }
 {
     let kind = h[0];
     if kind == 0 {
@@ -135,14 +132,15 @@ fn slot_of(h: [u64; 8], row: [u64; 16], shares: [f64; 16], minima: [f64; 16]) ->
     split_slot(h, row, shares, minima)
 }
 
+// A length of over 16 is handed on as it is: the slot then has a list that is not all there.
 pub fn pack(
     heads: &[[u64; 8]; 64],
     ids: &[[u64; 16]; 64],
     shares: &[[f64; 16]; 64],
     minima: &[[f64; 16]; 64],
 ) -> [Slot; 64]
-    requires { ⌜ (length (now heads) ≡ 64) × (length (now ids) ≡ 64) × (length (now shares) ≡ 64) × (length (now minima) ≡ 64) × ((i : ℕ) → Slim (getD (now heads) i [])) ⌝ }
-    ensures { λ r. ⌜ (map viewSlot r ≡ nodesFrom (now (heads .entry)) (now (ids .entry)) (now (shares .entry)) (now (minima .entry))) × (anyOf overSlot r ≡ false) ⌝ }
+    requires { ⌜ (length (now heads) ≡ 64) × (length (now ids) ≡ 64) × (length (now shares) ≡ 64) × (length (now minima) ≡ 64) ⌝ }
+    ensures { λ r. ⌜ (map viewSlot r ≡ nodesFrom (now (heads .entry)) (now (ids .entry)) (now (shares .entry)) (now (minima .entry))) × (anyOf overSlot r ≡ anyOf overOf (now (heads .entry))) ⌝ }
 {
     let none = bare_slot(Kind::Empty);
     let mut a = [none; 64];

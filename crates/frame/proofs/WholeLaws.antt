@@ -36,7 +36,7 @@ accepted-sound a i e = by (sound a) refl e
     by true p q = p
     by false p q = absurd (let z : _≡_ {A = ℕ} 0 1 = cc in omega arith)
 
-module _ (t : TileTree) (i : LayoutInput) (cs : List (List ℕ)) (qs : List (List Float)) (cs′ : List (List ℕ)) (qs′ : List (List Float)) (r : LaidOut) (size : length (t .slots) ≡ 64) (W : LaysOut t i cs qs cs′ qs′ r) where
+module _ (t : TileTree) (i : LayoutInput) (cs : List (List ℕ)) (qs : List (List Float)) (cs′ : List (List ℕ)) (qs′ : List (List Float)) (r : LaidOut) (size : length (t .slots) ≡ 64) (W : LaysOut (view t) i cs qs cs′ qs′ r) where
   abbrev found : List Item
   found = itemsIn (stream cs′ qs′ (r .len))
 

@@ -1,31 +1,31 @@
--- A sound tree has no list over 16: by its quiet repair, or since a lone empty root has none at all. Assumes nothing.
-use mathlib.Core.Path.{_≡_, refl, sym, ap, subst, _∙_}
+-- A sound arena has no list over 16: by its quiet repair, or since a lone empty root has none at all. Assumes nothing.
+use mathlib.Core.Path.{_≡_, refl, sym, ap, _∙_}
 use mathlib.Core.Bool.{Bool, true, false, _&&_, _||_}
-use mathlib.Core.List.{List, [], _∷_, map}
+use mathlib.Core.List.{List, [], _∷_}
 use Prim.Native.Nat.{ℕ, zero, suc, _≤_, _<_}
 use native.Mathlib.Omega.{arith}
 use borrow.Author.Tests.{ltb-true, ltb-false, le-ltb}
 use lib.Dec.{eqb, ltb}
-use lib.ListN.{length, take, getD, set, length-map}
+use lib.ListN.{length, take, getD, set}
+use lib.Ieee.{Float}
 use Rattle.rules.specs.Lists.{anyOf, allOf, sameList}
-use Rattle.rules.specs.Tree.{Node, empty, isEmpty, emptyGroup, nodeOf, viewSlot, overBy, overSlot, view, barCode, sameNode}
+use Rattle.rules.specs.Tree.{Node, Arena, empty, isEmpty, emptyGroup, barCode, sameNode}
 use Rattle.rules.specs.Repair.{repair}
 use Rattle.rules.specs.Sound.{isAccepted, isNone, loneEmptyRoot, sound}
-use Rattle.rules.specs.declared.model.TileTree.{TileTree}
-use Rattle.rules.specs.declared.model.Slot.{Slot}
-use Rattle.rules.specs.declared.model.Kind.{Kind}
-use Rattle.rules.specs.declared.model.Kind.the-variants.{Empty, Pane, Tabs, Split}
 use Rattle.forest.specs.Lists.{never}
 use Rattle.forest.specs.Equal.{and-both}
 use Rattle.forest.specs.SoundIs.{quiet-repair, sound-is}
-use Rattle.columns.specs.Pack.{idsBy, idsOf}
+use Rattle.columns.specs.Columns.{barFrom, nodeBy, nodeFrom, nodesFrom, Slim}
+use Rattle.columns.specs.Pack.{overKind, overOf}
+use Rattle.repair.specs.Whole.{arenaFrom, Plain}
+use Rattle.repair.proofs.StillLaws.{slim-heads, plain-over, plain-long}
 
 -- an empty slot has no list
-bare : (k : Kind) (s : Slot) → isEmpty (nodeOf k s) ≡ true → overBy k s ≡ false
-bare Empty s e = refl
-bare (Pane p) s e = never (sym e)
-bare (Tabs b) s e = never (sym e)
-bare (Split a) s e = never (sym e)
+bare : (k : ℕ) (h xs : List ℕ) (ss ms : List Float) → isEmpty (nodeBy k h xs ss ms) ≡ true → overKind k h ≡ false
+bare zero h xs ss ms e = refl
+bare (suc zero) h xs ss ms e = refl
+bare (suc (suc zero)) h xs ss ms e = never (sym e)
+bare (suc (suc (suc k))) h xs ss ms e = never (sym e)
 
 none-taken : (n : ℕ) (xs : List ℕ) → 0 < length xs → sameList eqb (take n xs) [] ≡ true → ltb 16 n ≡ false
 unfolding sameList
@@ -34,51 +34,67 @@ none-taken (suc n) [] h e = absurd (omega arith)
 none-taken (suc n) (x ∷ xs) h e = never (sym e)
 
 -- nor has the empty group
-blank : (k : Kind) (s : Slot) → 0 < length (idsBy k s) → sameNode (nodeOf k s) emptyGroup ≡ true → overBy k s ≡ false
-blank Empty s h e = never (sym e)
-blank (Pane p) s h e = never (sym e)
-blank (Tabs b) s h e = none-taken (s .panes .len) (s .panes .at) h (and-both (eqb (barCode b) 0 && eqb (s .active) 0) (sameList eqb (take (s .panes .len) (s .panes .at)) []) e .1)
-blank (Split a) s h e = never (sym e)
+blank : (k : ℕ) (h xs : List ℕ) (ss ms : List Float) → 0 < length xs → sameNode (nodeBy k h xs ss ms) emptyGroup ≡ true → overKind k h ≡ false
+blank zero h xs ss ms l e = refl
+blank (suc zero) h xs ss ms l e = refl
+blank (suc (suc zero)) h xs ss ms l e = none-taken (getD h 4 0) xs l (and-both (eqb (barCode (barFrom (getD h 1 0))) 0 && eqb (getD h 3 0) 0) (sameList eqb (take (getD h 4 0) xs) []) e .1)
+blank (suc (suc (suc k))) h xs ss ms l e = never (sym e)
 
-all-bare : (ss : List Slot) → allOf isEmpty (map viewSlot ss) ≡ true → anyOf overSlot ss ≡ false
-unfolding allOf anyOf
-all-bare [] e = refl
-all-bare (s ∷ ss) e =
-    let (p, q) = and-both (isEmpty (viewSlot s)) (allOf isEmpty (map viewSlot ss)) e in
-    ap (λ (b : Bool). b || anyOf overSlot ss) (bare (s .kind) s p) ∙ all-bare ss q
+all-bare : (hs xs : List (List ℕ)) (ss ms : List (List Float)) → length xs ≡ length hs → length ss ≡ length hs → length ms ≡ length hs → allOf isEmpty (nodesFrom hs xs ss ms) ≡ true → anyOf overOf hs ≡ false
+unfolding allOf anyOf nodesFrom
+all-bare [] xs ss ms p q r e = refl
+all-bare (h ∷ hs) [] ss ms p q r e = absurd (omega arith)
+all-bare (h ∷ hs) (x ∷ xs) [] ms p q r e = absurd (omega arith)
+all-bare (h ∷ hs) (x ∷ xs) (s ∷ ss) [] p q r e = absurd (omega arith)
+all-bare (h ∷ hs) (x ∷ xs) (s ∷ ss) (m ∷ ms) p q r e =
+    let (b, c) = and-both (isEmpty (nodeFrom h x s m)) (allOf isEmpty (nodesFrom hs xs ss ms)) e in
+    ap (λ (y : Bool). y || anyOf overOf hs) (bare (getD h 0 0) h x s m b) ∙ all-bare hs xs ss ms (omega arith) (omega arith) (omega arith) c
 
-lone-bare : (ss : List Slot) (i : ℕ) → sameNode (getD (map viewSlot ss) i empty) emptyGroup ≡ true → allOf isEmpty (set (map viewSlot ss) i empty) ≡ true → 0 < length (getD (map idsOf ss) i []) → anyOf overSlot ss ≡ false
-unfolding allOf anyOf
-lone-bare [] i e a h = never (sym e)
-lone-bare (s ∷ ss) zero e a h = ap (λ (b : Bool). b || anyOf overSlot ss) (blank (s .kind) s h e) ∙ all-bare ss a
-lone-bare (s ∷ ss) (suc i) e a h =
-    let (p, q) = and-both (isEmpty (viewSlot s)) (allOf isEmpty (set (map viewSlot ss) i empty)) a in
-    ap (λ (b : Bool). b || anyOf overSlot ss) (bare (s .kind) s p) ∙ lone-bare ss i e q h
+lone-bare : (hs xs : List (List ℕ)) (ss ms : List (List Float)) → length xs ≡ length hs → length ss ≡ length hs → length ms ≡ length hs → (i : ℕ) → 0 < length (getD xs i [])
+    → sameNode (getD (nodesFrom hs xs ss ms) i empty) emptyGroup ≡ true → allOf isEmpty (set (nodesFrom hs xs ss ms) i empty) ≡ true → anyOf overOf hs ≡ false
+unfolding allOf anyOf nodesFrom
+lone-bare [] xs ss ms p q r i l e a = refl
+lone-bare (h ∷ hs) [] ss ms p q r i l e a = absurd (omega arith)
+lone-bare (h ∷ hs) (x ∷ xs) [] ms p q r i l e a = absurd (omega arith)
+lone-bare (h ∷ hs) (x ∷ xs) (s ∷ ss) [] p q r i l e a = absurd (omega arith)
+lone-bare (h ∷ hs) (x ∷ xs) (s ∷ ss) (m ∷ ms) p q r zero l e a =
+    ap (λ (y : Bool). y || anyOf overOf hs) (blank (getD h 0 0) h x s m l e) ∙ all-bare hs xs ss ms (omega arith) (omega arith) (omega arith) a
+lone-bare (h ∷ hs) (x ∷ xs) (s ∷ ss) (m ∷ ms) p q r (suc i) l e a =
+    let (b, c) = and-both (isEmpty (nodeFrom h x s m)) (allOf isEmpty (set (nodesFrom hs xs ss ms) i empty)) a in
+    ap (λ (y : Bool). y || anyOf overOf hs) (bare (getD h 0 0) h x s m b) ∙ lone-bare hs xs ss ms (omega arith) (omega arith) (omega arith) i l e c
 
 past : (ns : List Node) (i : ℕ) → length ns ≤ i → getD ns i empty ≡ empty
 past [] i h = refl
 past (n ∷ ns) zero h = absurd (omega arith)
 past (n ∷ ns) (suc i) h = past ns i (omega arith)
 
-module _ (t : TileTree) (size : length (t .slots) ≡ 64) (root : t .root .slot < 64 → length (getD (map idsOf (t .slots)) (t .root .slot) []) ≡ 16) where
-  abbrev ss : List Slot
-  ss = t .slots
+module _ (root v : ℕ) (hs xs : List (List ℕ)) (ss ms : List (List Float)) (P : Plain hs xs ss ms) (row : root < 64 → length (getD xs root []) ≡ 16) where
+  abbrev a : Arena
+  a = arenaFrom root v hs xs ss ms
 
-  abbrev i : ℕ
-  i = t .root .slot
+  abbrev ns : List Node
+  ns = nodesFrom hs xs ss ms
 
-  lone : loneEmptyRoot (view t) ≡ true → anyOf overSlot ss ≡ false
-  lone l = let (e, a) = and-both (sameNode (getD (map viewSlot ss) i empty) emptyGroup) (allOf isEmpty (set (map viewSlot ss) i empty)) l in by (ltb i 64) refl e a
+  long : length ns ≡ 64
+  long = plain-long hs xs ss ms P
+
+  lone : loneEmptyRoot a ≡ true → anyOf overOf hs ≡ false
+  lone l = let (e, o) = and-both (sameNode (getD ns root empty) emptyGroup) (allOf isEmpty (set ns root empty)) l in by (ltb root 64) refl e o
     where
-      by : (b : Bool) → ltb i 64 ≡ b → sameNode (getD (map viewSlot ss) i empty) emptyGroup ≡ true → allOf isEmpty (set (map viewSlot ss) i empty) ≡ true → anyOf overSlot ss ≡ false
-      by true q e a = let n : length (getD (map idsOf ss) i []) ≡ 16 = root (ltb-true i 64 q) in lone-bare ss i e a (omega arith)
-      by false q e a =
-          let far : 64 ≤ i = ltb-false i 64 q in
-          never (sym (ap (λ (n : Node). sameNode n emptyGroup) (sym (past (map viewSlot ss) i (omega (arith, length-map ss viewSlot)))) ∙ e))
+      by : (b : Bool) → ltb root 64 ≡ b → sameNode (getD ns root empty) emptyGroup ≡ true → allOf isEmpty (set ns root empty) ≡ true → anyOf overOf hs ≡ false
+      by true q e o =
+          let n : length (getD xs root []) ≡ 16 = row (ltb-true root 64 q) in
+          lone-bare hs xs ss ms (P .ids ∙ sym (P .heads)) (P .shares ∙ sym (P .heads)) (P .minima ∙ sym (P .heads)) root (omega arith) e o
+      by false q e o =
+          let far : 64 ≤ root = ltb-false root 64 q in
+          never (sym (ap (λ (n : Node). sameNode n emptyGroup) (sym (past ns root (omega (arith, long)))) ∙ e))
 
-  pub sound-whole : sound (view t) ≡ true → anyOf overSlot ss ≡ false
-  sound-whole e = by (isAccepted (repair (view t) .answer) && isNone (repair (view t) .actions)) refl (sym (sound-is (view t) (length-map ss viewSlot ∙ size)) ∙ e)
+  sound-whole : sound a ≡ true → anyOf overOf hs ≡ false
+  sound-whole e = by (isAccepted (repair a .answer) && isNone (repair a .actions)) refl (sym (sound-is a long) ∙ e)
     where
-      by : (b : Bool) → (isAccepted (repair (view t) .answer) && isNone (repair (view t) .actions)) ≡ b → (b || loneEmptyRoot (view t)) ≡ true → anyOf overSlot ss ≡ false
-      by true q p = let (x, y) = and-both (isAccepted (repair (view t) .answer)) (isNone (repair (view t) .actions)) q in quiet-repair (view t) (length-map ss viewSlot ∙ size) x y .3
+      by : (b : Bool) → (isAccepted (repair a .answer) && isNone (repair a .actions)) ≡ b → (b || loneEmptyRoot a) ≡ true → anyOf overOf hs ≡ false
+      by true q p = let (x, y) = and-both (isAccepted (repair a .answer)) (isNone (repair a .actions)) q in quiet-repair a long x y .3
       by false q p = lone p
+
+  pub sound-slim : sound a ≡ true → (i : ℕ) → Slim (getD hs i [])
+  sound-slim e = slim-heads hs (plain-over hs xs ss ms P ∙ sound-whole e)

@@ -4,8 +4,8 @@ use mathlib.Core.List.{List, _++_, map}
 use Prim.Native.Nat.{ℕ}
 use lib.ListN.{length, drop}
 use lib.Ieee.{Float}
+use Rattle.rules.specs.Tree.{Arena}
 use Rattle.rules.specs.Frame.{Laid}
-use Rattle.rules.specs.declared.model.TileTree.{TileTree}
 use Rattle.rules.specs.declared.frame.LayoutInput.{LayoutInput}
 use Rattle.rules.specs.declared.refusal.Answer.{Answer}
 use Rattle.rules.specs.declared.refusal.Answer.the-variants.{Accepted, Refused}
@@ -13,7 +13,7 @@ use Rattle.layout.specs.Stream.{codeOf, sidesOf, stream, itemsIn}
 use Rattle.layout.specs.Whole.{LaysOut}
 use Rattle.layout.specs.declared.LaidOut.{LaidOut}
 
-module _ (t : TileTree) (i : LayoutInput) (cs : List (List ℕ)) (qs : List (List Float)) (cs₁ : List (List ℕ)) (qs₁ : List (List Float)) (a : LaidOut) (cs₂ : List (List ℕ)) (qs₂ : List (List Float)) (b : LaidOut)
+module _ (t : Arena) (i : LayoutInput) (cs : List (List ℕ)) (qs : List (List Float)) (cs₁ : List (List ℕ)) (qs₁ : List (List Float)) (a : LaidOut) (cs₂ : List (List ℕ)) (qs₂ : List (List Float)) (b : LaidOut)
     (A : LaysOut t i cs qs cs₁ qs₁ a) (B : LaysOut t i cs qs cs₂ qs₂ b) where
   answers : a .answer ≡ b .answer
   answers = ap (λ (l : Laid). l .answer) (A .right ∙ sym (B .right))

@@ -4,9 +4,8 @@ use Prim.Native.Nat.{ℕ, _≤_}
 use mathlib.Core.List.{List, _++_, map}
 use lib.ListN.{length, drop}
 use lib.Ieee.{Float}
-use Rattle.rules.specs.Tree.{view}
+use Rattle.rules.specs.Tree.{Arena}
 use Rattle.rules.specs.Frame.{Laid, frameOf, layoutItems, plusInput, layout}
-use Rattle.rules.specs.declared.model.TileTree.{TileTree}
 use Rattle.rules.specs.declared.frame.LayoutInput.{LayoutInput}
 use Rattle.rules.specs.declared.refusal.Answer.the-variants.{Accepted, Refused}
 use Rattle.rules.specs.declared.refusal.Refusal.{Refusal}
@@ -17,11 +16,11 @@ use Rattle.layout.specs.declared.LaidOut.{LaidOut}
 abbrev pub laidOut : List (List ℕ) → List (List Float) → LaidOut → Laid
 laidOut cs qs r = record { answer = r .answer; revision = r .revision; frame = frameOf (itemsIn (stream cs qs (r .len))) }
 
--- from the arrays cs and qs to the arrays cs′ and qs′, of which `len` entries are in use
-pub record LaysOut (t : TileTree) (i : LayoutInput) (cs : List (List ℕ)) (qs : List (List Float)) (cs′ : List (List ℕ)) (qs′ : List (List Float)) (r : LaidOut) : Type 0 where
-  pub right : laidOut cs′ qs′ r ≡ layout (view t) i
+-- of an arena, from the arrays cs and qs to the arrays cs′ and qs′, of which `len` entries are in use
+pub record LaysOut (a : Arena) (i : LayoutInput) (cs : List (List ℕ)) (qs : List (List Float)) (cs′ : List (List ℕ)) (qs′ : List (List Float)) (r : LaidOut) : Type 0 where
+  pub right : laidOut cs′ qs′ r ≡ layout a i
   -- the entries in use are the rule's items, in its order
-  pub items : r .answer ≡ Accepted → itemsIn (stream cs′ qs′ (r .len)) ≡ layoutItems (view t) (plusInput i)
+  pub items : r .answer ≡ Accepted → itemsIn (stream cs′ qs′ (r .len)) ≡ layoutItems a (plusInput i)
   -- all that the arrays hold: the entries in use, number for number, and past them what was there
   pub codes : cs′ ≡ map codeOf (itemsIn (stream cs′ qs′ (r .len))) ++ drop (r .len) cs
   pub sides : qs′ ≡ map sidesOf (itemsIn (stream cs′ qs′ (r .len))) ++ drop (r .len) qs

@@ -17,6 +17,7 @@ use Rattle.rules.specs.declared.model.TileId.{TileId}
 use Rattle.lists.specs.Find.{position-found}
 use Rattle.forest.specs.Lists.{All, Distinct, never, member-all, member-right, member-left, clash}
 use Rattle.forest.specs.Settled.{slots}
+use Rattle.forest.specs.Stays.{panes-full}
 
 -- ---- the scans: slot by slot, from the lowest
 
@@ -226,12 +227,6 @@ pub record OneTree (ns : List Node) (r : TileId) : Type 0 where
   pub panes : Distinct (panesIn r ns)
   pub parents : (i j t : ℕ) → Member t (slots (kidsOf (getD ns i empty))) → Member t (slots (kidsOf (getD ns j empty))) → i ≡ j
 
-panes-full : (n : Node) (p : ℕ) → Member p (panesOf n) → isEmpty n ≡ false
-panes-full empty p m = absurd m
-panes-full (pane q) p m = refl
-panes-full (tabs b a qs) p m = refl
-panes-full (split a cs ss ms) p m = absurd m
-
 kids-full : (n : Node) (t : ℕ) → Member t (slots (kidsOf n)) → isEmpty n ≡ false
 kids-full empty p m = absurd m
 kids-full (pane q) p m = absurd m
@@ -239,7 +234,7 @@ kids-full (tabs b a qs) p m = absurd m
 kids-full (split a cs ss ms) p m = refl
 
 module _ (ns : List Node) where
-  along-in : (p : ℕ) (xs : List TileId) (i : ℕ) → Member i (slots xs) → Member p (panesOf (getD ns i empty)) → Member p (panesAlong ns xs)
+  pub along-in : (p : ℕ) (xs : List TileId) (i : ℕ) → Member i (slots xs) → Member p (panesOf (getD ns i empty)) → Member p (panesAlong ns xs)
   unfolding panesAlong
   along-in p [] i m h = absurd m
   along-in p (x ∷ xs) i (inl e) h = member-left p (panesOf (nodeAt ns x)) (panesAlong ns xs) (subst (λ (k : ℕ). Member p (panesOf (getD ns k empty))) e h)
@@ -249,7 +244,7 @@ module _ (ns : List Node) where
   distinct-tail [] ys d = d
   distinct-tail (x ∷ xs) ys d = distinct-tail xs ys (d .1)
 
-  pane-once : (p : ℕ) (xs : List TileId) → Distinct (panesAlong ns xs) → (i j : ℕ) → Member i (slots xs) → Member j (slots xs)
+  pub pane-once : (p : ℕ) (xs : List TileId) → Distinct (panesAlong ns xs) → (i j : ℕ) → Member i (slots xs) → Member j (slots xs)
       → Member p (panesOf (getD ns i empty)) → Member p (panesOf (getD ns j empty)) → i ≡ j
   unfolding panesAlong
   pane-once p [] d i j m n h g = absurd m

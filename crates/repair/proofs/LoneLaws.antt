@@ -1,32 +1,21 @@
--- Laws of the lone empty root: a group's three tests, and all slots but one read in turn. Assumes nothing.
+-- Laws of the lone empty root: a head's four tests, and a sweep that keeps the root alone. Assumes nothing.
 use mathlib.Core.Path.{_≡_, refl, sym, ap, _∙_}
-use mathlib.Core.Bool.{Bool, true, false, not, _&&_, _||_}
-use mathlib.Core.List.{List, [], _∷_, map}
-use Prim.Native.Nat.{ℕ, zero, suc, _+_, _≤_, _<_}
+use mathlib.Core.Bool.{Bool, true, false, _&&_}
+use mathlib.Core.List.{List, [], _∷_}
+use Prim.Native.Nat.{ℕ, zero, suc, _≤_, _<_}
 use native.Mathlib.Omega.{arith}
-use native.Mathlib.Decide.{ℕ-discrete}
-use native.Mathlib.Numerals.{add-one}
-use borrow.Author.Tests.{eq-eqb, ne-eqb}
+use borrow.Author.Tests.{ne-eqb}
 use lib.Dec.{eqb}
-use lib.ListN.{length, getD, take, drop, length-set, length-map, drop-of-length-le}
-use lib.Seq.{drop-cons, getD-set-same, getD-set-other}
+use lib.ListN.{length, getD, take, set, replicate}
+use lib.Ieee.{Float}
 use Rattle.rules.specs.Lists.{allOf, sameList}
-use Rattle.rules.specs.Tree.{Node, empty, tile, view, viewSlot, clearNode, isEmpty, emptyGroup, nodeOf, barCode, sameNode}
+use Rattle.rules.specs.Tree.{Node, empty, isEmpty, emptyGroup, barCode, sameNode}
 use Rattle.rules.specs.Sound.{loneEmptyRoot}
-use Rattle.rules.specs.declared.model.TileTree.{TileTree}
-use Rattle.rules.specs.declared.model.Slot.{Slot}
-use Rattle.rules.specs.declared.model.TabBarPlacement.{TabBarPlacement}
-use Rattle.rules.specs.declared.model.Kind.the-variants.{Tabs}
-use Rattle.columns.specs.PackLaws.{getD-map}
-
--- a test and its opposite
-pub not-true : (b : Bool) → not b ≡ true → b ≡ false
-not-true true e = sym e
-not-true false e = refl
-
-pub not-false : (b : Bool) → not b ≡ false → b ≡ true
-not-false true e = refl
-not-false false e = sym e
+use Rattle.forest.specs.Still.{noneLost}
+use Rattle.columns.specs.Columns.{barFrom, nodeBy, nodesFrom}
+use Rattle.columns.specs.Pack.{NoneLost}
+use Rattle.columns.specs.ColumnLaws.{nodes-long, nodes-at}
+use Rattle.repair.specs.Whole.{arenaFrom, Plain, isBlank}
 
 -- an empty list is told by its length
 none-by : (n : ℕ) (xs : List ℕ) → 0 < length xs → sameList eqb (take n xs) [] ≡ eqb n 0
@@ -35,47 +24,35 @@ none-by zero xs h = refl
 none-by (suc n) [] h = absurd (omega arith)
 none-by (suc n) (x ∷ xs) h = sym (ne-eqb (suc n) 0 (λ e. omega (arith, e)))
 
--- a group is the empty Hidden one by three numbers
-pub blank-is : (s : Slot) (b : TabBarPlacement) → length (s .panes .at) ≡ 16 → (eqb (barCode b) 0 && eqb (s .active) 0 && eqb (s .panes .len) 0) ≡ sameNode (nodeOf (Tabs b) s) emptyGroup
-blank-is s b h = ap (λ (t : Bool). eqb (barCode b) 0 && eqb (s .active) 0 && t) (sym (none-by (s .panes .len) (s .panes .at) (omega arith)))
+-- Hidden by its number
+hidden-by : (m : ℕ) → eqb m 0 ≡ eqb (barCode (barFrom m)) 0
+hidden-by zero = refl
+hidden-by (suc zero) = refl
+hidden-by (suc (suc zero)) = refl
+hidden-by (suc (suc (suc zero))) = refl
+hidden-by (suc (suc (suc (suc n)))) = ne-eqb (suc (suc (suc (suc n)))) 0 (λ e. omega (arith, e))
 
-module _ (ss : List Slot) (root : ℕ) (size : length ss ≡ 64) where
-  abbrev rest : List Node
-  rest = clearNode (tile root) (map viewSlot ss)
+-- a head is the empty Hidden group's by four numbers
+blank-by : (k : ℕ) (h xs : List ℕ) (ss ms : List Float) → 0 < length xs → (eqb k 2 && eqb (getD h 1 0) 0 && eqb (getD h 3 0) 0 && eqb (getD h 4 0) 0) ≡ sameNode (nodeBy k h xs ss ms) emptyGroup
+blank-by zero h xs ss ms l = refl
+blank-by (suc zero) h xs ss ms l = refl
+blank-by (suc (suc zero)) h xs ss ms l = λ z. hidden-by (getD h 1 0) z && eqb (getD h 3 0) 0 && sym (none-by (getD h 4 0) xs l) z
+blank-by (suc (suc (suc k))) h xs ss ms l = ap (λ (b : Bool). b && eqb (getD h 1 0) 0 && eqb (getD h 3 0) 0 && eqb (getD h 4 0) 0) (ne-eqb (suc (suc (suc k))) 2 (λ e. omega (arith, e)))
 
-  rest-long : length rest ≡ 64
-  rest-long = length-set (map viewSlot ss) root empty ∙ length-map ss viewSlot ∙ size
+-- ---- a sweep that keeps nothing, or one slot alone
 
-  -- the root's slot is passed over
-  rest-at : (i : ℕ) (d : Slot) → i < 64 → isEmpty (getD rest i empty) ≡ (eqb i root || isEmpty (viewSlot (getD ss i d)))
-  rest-at i d h = go (ℕ-discrete i root)
-    where
-      go : Dec (i ≡ root) → isEmpty (getD rest i empty) ≡ (eqb i root || isEmpty (viewSlot (getD ss i d)))
-      go (yes e) =
-          ap isEmpty (ap (λ (k : ℕ). getD rest k empty) e ∙ getD-set-same (map viewSlot ss) root empty empty (omega (arith, length-map ss viewSlot, size, e)))
-          ∙ sym (ap (λ (b : Bool). b || isEmpty (viewSlot (getD ss i d))) (eq-eqb i root e))
-      go (no n) =
-          ap isEmpty (getD-set-other (map viewSlot ss) root i empty empty n ∙ getD-map viewSlot ss i d empty (omega (arith, size)))
-          ∙ sym (ap (λ (b : Bool). b || isEmpty (viewSlot (getD ss i d))) (ne-eqb i root n))
+kept-none : (n : ℕ) (ns : List Node) → length ns ≡ n → noneLost (replicate n false) ns ≡ allOf isEmpty ns
+unfolding noneLost allOf
+kept-none n [] e = refl
+kept-none zero (x ∷ ns) e = absurd (omega arith)
+kept-none (suc n) (x ∷ ns) e = ap (λ (b : Bool). isEmpty x && b) (kept-none n ns (omega arith))
 
-  -- all slots from i on
-  abbrev pub Rest : ℕ → Type 0
-  Rest i = allOf isEmpty (drop i rest) ≡ allOf isEmpty rest
-
-  step : (i : ℕ) (d : Slot) → i < 64 → Rest i → ((eqb i root || isEmpty (viewSlot (getD ss i d))) && allOf isEmpty (drop (suc i) rest)) ≡ allOf isEmpty rest
-  unfolding allOf
-  step i d h r =
-      ap (λ (b : Bool). b && allOf isEmpty (drop (suc i) rest)) (sym (rest-at i d h)) ∙ sym (ap (allOf isEmpty) (drop-cons rest i empty (omega (arith, rest-long)))) ∙ r
-
-  pub rest-more : (i : ℕ) (d : Slot) → i < 64 → (eqb i root || isEmpty (viewSlot (getD ss i d))) ≡ true → Rest i → Rest (i + 1)
-  rest-more i d h e r = ap (λ (k : ℕ). allOf isEmpty (drop k rest)) (add-one i) ∙ ap (λ (b : Bool). b && allOf isEmpty (drop (suc i) rest)) (sym e) ∙ step i d h r
-
-  pub rest-not : (i : ℕ) (d : Slot) → i < 64 → (eqb i root || isEmpty (viewSlot (getD ss i d))) ≡ false → Rest i → false ≡ allOf isEmpty rest
-  rest-not i d h e r = ap (λ (b : Bool). b && allOf isEmpty (drop (suc i) rest)) (sym e) ∙ step i d h r
-
-  pub rest-all : (i : ℕ) → 64 ≤ i → Rest i → true ≡ allOf isEmpty rest
-  unfolding allOf
-  rest-all i h r = sym (ap (allOf isEmpty) (let h′ : length rest ≤ i = omega (arith, rest-long) in drop-of-length-le rest h′)) ∙ r
+kept-one : (n i : ℕ) (ns : List Node) → length ns ≡ n → noneLost (set (replicate n false) i true) ns ≡ allOf isEmpty (set ns i empty)
+unfolding noneLost allOf
+kept-one n i [] e = refl
+kept-one zero i (x ∷ ns) e = absurd (omega arith)
+kept-one (suc n) zero (x ∷ ns) e = kept-none n ns (omega arith)
+kept-one (suc n) (suc i) (x ∷ ns) e = ap (λ (b : Bool). isEmpty x && b) (kept-one n i ns (omega arith))
 
 -- ---- the root
 
@@ -84,12 +61,31 @@ past [] i h = refl
 past (n ∷ ns) zero h = absurd (omega arith)
 past (n ∷ ns) (suc i) h = past ns i (omega arith)
 
-module _ (t : TileTree) (size : length (t .slots) ≡ 64) where
-  pub lone-out : 64 ≤ t .root .slot → false ≡ loneEmptyRoot (view t)
-  lone-out h =
-      sym (ap (λ (n : Node). sameNode n emptyGroup && allOf isEmpty (clearNode (t .root) (map viewSlot (t .slots)))) (past (map viewSlot (t .slots)) (t .root .slot) (omega (arith, length-map (t .slots) viewSlot, size))))
+module _ (root v : ℕ) (hs xs : List (List ℕ)) (ss ms : List (List Float)) (P : Plain hs xs ss ms) where
+  abbrev ns : List Node
+  ns = nodesFrom hs xs ss ms
 
-  pub lone-in : (d : Slot) → t .root .slot < 64
-      → (sameNode (viewSlot (getD (t .slots) (t .root .slot) d)) emptyGroup && allOf isEmpty (clearNode (t .root) (map viewSlot (t .slots)))) ≡ loneEmptyRoot (view t)
-  lone-in d h =
-      ap (λ (n : Node). sameNode n emptyGroup && allOf isEmpty (clearNode (t .root) (map viewSlot (t .slots)))) (sym (getD-map viewSlot (t .slots) (t .root .slot) d empty (omega (arith, size))))
+  long : length ns ≡ 64
+  long = nodes-long hs xs ss ms (P .heads) (P .ids) (P .shares) (P .minima)
+
+  abbrev Lone : Bool → Type 0
+  Lone r = r ≡ loneEmptyRoot (arenaFrom root v hs xs ss ms)
+
+  -- the root's node, then the others
+  by-node : (b : Bool) → b ≡ sameNode (getD ns root empty) emptyGroup → Lone (b && allOf isEmpty (set ns root empty))
+  by-node b e = ap (λ (x : Bool). x && allOf isEmpty (set ns root empty)) e
+
+  pub lone-out : 64 ≤ root → Lone false
+  lone-out h = by-node false (ap (λ (n : Node). sameNode n emptyGroup) (sym (past ns root (omega (arith, long)))))
+
+  module _ (row : length (getD xs root []) ≡ 16) where
+    head-is : isBlank (getD hs root []) ≡ sameNode (getD ns root empty) emptyGroup
+    head-is =
+        blank-by (getD (getD hs root []) 0 0) (getD hs root []) (getD xs root []) (getD ss root []) (getD ms root []) (omega arith)
+        ∙ ap (λ (n : Node). sameNode n emptyGroup) (sym (nodes-at hs xs ss ms (P .heads) (P .ids) (P .shares) (P .minima) root))
+
+    pub lone-not : isBlank (getD hs root []) ≡ false → Lone false
+    lone-not e = by-node false (sym e ∙ head-is)
+
+    pub lone-by : isBlank (getD hs root []) ≡ true → (r : Bool) → NoneLost hs (set (replicate 64 false) root true) r → Lone r
+    lone-by e r N = N .right xs ss ms (P .ids) (P .shares) (P .minima) ∙ kept-one 64 root ns long ∙ by-node true (sym e ∙ head-is)

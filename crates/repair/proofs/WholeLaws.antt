@@ -26,13 +26,14 @@ use Rattle.forest.specs.Finish.{finishedAs, normalized, repair-over, repair-who
 use Rattle.normalize.specs.Work.{Cols, cols, nodesIn, Sized, Shows}
 use Rattle.columns.specs.Columns.{nodeBy, nodesFrom, Slim, Lists}
 use Rattle.normalize.specs.Walked.{Walked}
-use Rattle.columns.specs.Pack.{headOf, idsOf, sharesOf, minimaOf, Sweeps, firstOf, reported, Unpacks}
+use Rattle.columns.specs.Pack.{headOf, idsOf, sharesOf, minimaOf, overOf, Sweeps, firstOf, reported, Unpacks}
 use Rattle.repair.specs.Whole.{repaired, Columned, Repairs, Normalizes, Refuses, Finishes, Plants}
 use Rattle.normalize.specs.declared.Counts.{Counts}
 use Rattle.repair.specs.declared.Repairing.{Repairing}
 use Rattle.normalize.specs.declared.Kept.{Kept}
 use Rattle.normalize.specs.declared.Kept.the-variants.{At, Gone, Wide}
 use Rattle.columns.specs.PackLaws.{or-left, or-right, unpacked, unpacked-slim}
+use Rattle.columns.specs.OverLaws.{none-over}
 
 -- ---- no list of slim heads is too wide
 
@@ -95,13 +96,13 @@ whole-repairs t spare r size whole e N =
 
 -- the sweep, the packing and the report, one after another
 pub finishes : (hs xs : List (List ℕ)) (ss ms : List (List Float)) (cs : List Bool) (acts : List (List ℕ)) (n : ℕ) (hs′ acts′ : List (List ℕ)) (m revision root : ℕ) (r : Repairing)
-    → length xs ≡ 64 → length ss ≡ 64 → length ms ≡ 64 → Sweeps hs cs acts n hs′ acts′ m
-    → (map viewSlot (r .tree .slots) ≡ nodesFrom hs′ xs ss ms) × (anyOf overSlot (r .tree .slots) ≡ false) → ((l : List RepairAction) → Lists acts′ m l → reported (r .actions) ≡ l)
+    → length xs ≡ 64 → length ss ≡ 64 → length ms ≡ 64 → ((i : ℕ) → Slim (getD hs i [])) → Sweeps hs cs acts n hs′ acts′ m
+    → (map viewSlot (r .tree .slots) ≡ nodesFrom hs′ xs ss ms) × (anyOf overSlot (r .tree .slots) ≡ anyOf overOf hs′) → ((l : List RepairAction) → Lists acts′ m l → reported (r .actions) ≡ l)
     → r .answer ≡ Accepted → r .tree .root ≡ tile root → r .tree .revision ≡ revision → Finishes (nodesFrom hs xs ss ms) cs acts n revision root r
-finishes hs xs ss ms cs acts n hs′ acts′ m v root r lx ls lm S (p, o) R e er ev =
+finishes hs xs ss ms cs acts n hs′ acts′ m v root r lx ls lm few S (p, o) R e er ev =
     record {
       answer = e;
-      tree = λ z. record { root = er z; revision = ev z; nodes = (p ∙ S .nodes xs ss ms lx ls lm) z; over = o z };
+      tree = λ z. record { root = er z; revision = ev z; nodes = (p ∙ S .nodes xs ss ms lx ls lm) z; over = (o ∙ none-over hs′ (S .slim few)) z };
       actions = λ l g. R (actionsBy 0 cs (nodesFrom hs xs ss ms) l) (S .lists xs ss ms lx ls lm l g);
     }
 

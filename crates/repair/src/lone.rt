@@ -1,88 +1,64 @@
 // The one sound tree that repair would alter: its only occupied slot is the root, an empty Hidden group with active 0.
-use columns::slots;
-use columns::unpack;
-use rules::model::Kind;
-use rules::model::Slot;
-use rules::model::TabBarPlacement;
-use rules::model::TileTree;
+use columns::sweep;
 ghost use mathlib.Core.Path.{_≡_};
-ghost use mathlib.Core.Bool.{_&&_, _||_};
-ghost use mathlib.Core.List.{map};
-ghost use lib.Dec.{eqb};
-ghost use Rattle.rules.specs.Lists.{allOf};
-ghost use Rattle.rules.specs.Tree.{tile, view, viewSlot, clearNode, isEmpty, emptyGroup, barCode, sameNode};
+ghost use mathlib.Core.List.{[]};
+ghost use Prim.Native.Nat.{ℕ, _<_};
+ghost use lib.ListN.{length, getD};
 ghost use Rattle.rules.specs.Sound.{loneEmptyRoot};
+ghost use Rattle.repair.specs.Whole.{arenaFrom, Plain, isBlank};
 
-fn both(a: bool, b: bool) -> bool
-    ensures { λ r. ⌜ r ≡ (a && b) ⌝ }
+fn is_blank(h: [u64; 8]) -> bool
+    ensures { λ r. ⌜ r ≡ isBlank h ⌝ }
 {
-    if a {
-        return b;
+    if h[0] != 2 {
+        return false;
     }
-    false
+    if h[1] != 0 {
+        return false;
+    }
+    if h[3] != 0 {
+        return false;
+    }
+    h[4] == 0
 }
 
-// A group's placement, active and length, all 0.
-fn is_blank(b: TabBarPlacement, active: usize, len: usize) -> bool
-    ensures { λ r. ⌜ r ≡ (eqb (barCode b) 0 && eqb active 0 && eqb len 0) ⌝ }
-{
-    let bar = unpack::bar_code(b);
-    let first = both(bar == 0, active == 0);
-    both(first, len == 0)
-}
+// A row of ids has 16 places, which only one by value tells.
+fn full(row: [u64; 16])
+    ensures { λ r. ⌜ length row ≡ 16 ⌝ }
+{}
 
-fn is_empty_group(s: Slot) -> bool
-    ensures { λ r. ⌜ r ≡ sameNode (viewSlot s) emptyGroup ⌝ }
+// The root's row of ids has 16 places, where there is one.
+pub fn root_row(ids: &[[u64; 16]; 64], root: u64)
+    ensures { λ r. ⌜ (root < 64 → length (getD (now (ids .entry)) root []) ≡ 16) ⌝ }
 {
-    let k = s.kind;
-    let panes = s.panes;
-    match k {
-        Kind::Empty => false,
-        Kind::Pane(_) => false,
-        Kind::Tabs(b) => is_blank(b, s.active, panes.len),
-        Kind::Split(_) => false,
+    if root < 64 {
+        let i = root as usize;
+        let row = ids[i];
+        full(row);
     }
 }
 
-// Whether a slot is the root's, or empty.
-fn passes(s: Slot, i: usize, root: u64) -> bool
-    ensures { λ r. ⌜ r ≡ (eqb i root || isEmpty (viewSlot s)) ⌝ }
+// The root's head, and then whether a sweep that keeps the root alone would empty no slot.
+pub fn lone_empty_root(
+    root: u64,
+    heads: &[[u64; 8]; 64],
+    ids: &[[u64; 16]; 64],
+    shares: &[[f64; 16]; 64],
+    minima: &[[f64; 16]; 64],
+) -> bool
+    requires { ⌜ Plain (now heads) (now ids) (now shares) (now minima) ⌝ }
+    ensures { λ r. ⌜ ((v : ℕ) → r ≡ loneEmptyRoot (arenaFrom root v (now (heads .entry)) (now (ids .entry)) (now (shares .entry)) (now (minima .entry)))) ⌝ }
 {
-    if i as u64 == root {
-        return true;
-    }
-    slots::is_empty(s)
-}
-
-// Whether all slots but the root's are empty.
-fn others_empty(slots: [Slot; 64], root: u64) -> bool
-    ensures { λ r. ⌜ r ≡ allOf isEmpty (clearNode (tile root) (map viewSlot slots)) ⌝ }
-{
-    let mut i = 0usize;
-    while i < 64 {
-        let s = slots[i];
-        if !passes(s, i, root) {
-            return false;
-        }
-        i += 1;
-    }
-    true
-}
-
-pub fn lone_empty_root(t: TileTree) -> bool
-    ensures { λ r. ⌜ r ≡ loneEmptyRoot (view t) ⌝ }
-{
-    let top = t.root;
-    let root = top.slot;
-    let slots = t.slots;
-    slots::sized(slots);
+    root_row(ids, root);
     if 64 <= root {
         return false;
     }
     let i = root as usize;
-    let s = slots[i];
-    if is_empty_group(s) {
-        return others_empty(slots, root);
+    let head = heads[i];
+    if !is_blank(head) {
+        return false;
     }
-    false
+    let mut claimed = [false; 64];
+    claimed[i] = true;
+    sweep::none_lost(heads, &claimed)
 }

@@ -23,11 +23,10 @@ ghost use Rattle.rules.specs.Lists.{anyOf};
 ghost use Rattle.rules.specs.Tree.{view, overSlot};
 ghost use Rattle.rules.specs.Repair as Rule;
 ghost use Rattle.rules.specs.Sound.{sound};
-ghost use Rattle.rules.specs.declared.model.TileTree.{TileTree};
 ghost use Rattle.forest.specs.Still.{isStill};
 ghost use Rattle.rules.specs.declared.refusal.Answer.the-variants as Answers;
 ghost use Rattle.columns.specs.Columns.{nodesFrom, Slim};
-ghost use Rattle.repair.specs.Whole.{repaired, Columned, Normalizes, Refuses, Finishes, Plants};
+ghost use Rattle.repair.specs.Whole.{repaired, Columned, arenaFrom, Plain, Normalizes, Refuses, Finishes, Plants};
 
 fn refused(t: TileTree, e: Refusal) -> Repairing
     ensures { λ r. ⌜ Refuses t e r ⌝ }
@@ -194,7 +193,7 @@ pub fn repair(t: TileTree) -> Repairing
     settle(t, spare, &mut heads, &mut ids, &mut shares, &mut minima)
 }
 
-// Whether the walk of a tree's columns keeps the root, notes nothing and leaves no occupied slot out.
+// Whether the walk of columns keeps the root, notes nothing and leaves no occupied slot out.
 fn is_still(
     root: u64,
     heads: &mut [[u64; 8]; 64],
@@ -202,8 +201,8 @@ fn is_still(
     shares: &mut [[f64; 16]; 64],
     minima: &mut [[f64; 16]; 64],
 ) -> bool
-    requires { ⌜ (length (now heads) ≡ 64) × (length (now ids) ≡ 64) × (length (now shares) ≡ 64) × (length (now minima) ≡ 64) ⌝ }
-    ensures { λ r. ⌜ ((t : TileTree) → t .root .slot ≡ root → Columned t (now (heads .entry)) (now (ids .entry)) (now (shares .entry)) (now (minima .entry)) → r ≡ isStill (Rule.repair (view t))) ⌝ }
+    requires { ⌜ Plain (now heads) (now ids) (now shares) (now minima) ⌝ }
+    ensures { λ r. ⌜ ((v : ℕ) → r ≡ isStill (Rule.repair (arenaFrom root v (now (heads .entry)) (now (ids .entry)) (now (shares .entry)) (now (minima .entry))))) ⌝ }
 {
     if unpack::heads_over(heads) {
         return false;
@@ -238,7 +237,27 @@ fn is_still(
     }
 }
 
-// Whether repair would leave the tree as it is, or it is the lone empty root.
+// Whether repair would leave the arena that columns show as it is, or it is the lone empty root. The walk goes over copies.
+pub fn sound_columns(
+    root: u64,
+    heads: &[[u64; 8]; 64],
+    ids: &[[u64; 16]; 64],
+    shares: &[[f64; 16]; 64],
+    minima: &[[f64; 16]; 64],
+) -> bool
+    requires { ⌜ Plain (now heads) (now ids) (now shares) (now minima) ⌝ }
+    ensures { λ r. ⌜ ((v : ℕ) → r ≡ sound (arenaFrom root v (now (heads .entry)) (now (ids .entry)) (now (shares .entry)) (now (minima .entry)))) ⌝ }
+{
+    let mut h = *heads;
+    let mut x = *ids;
+    let mut s = *shares;
+    let mut m = *minima;
+    if is_still(root, &mut h, &mut x, &mut s, &mut m) {
+        return true;
+    }
+    lone::lone_empty_root(root, heads, ids, shares, minima)
+}
+
 pub fn is_sound(t: TileTree) -> bool
     ensures { λ r. ⌜ r ≡ sound (view t) ⌝ }
 {
@@ -250,8 +269,5 @@ pub fn is_sound(t: TileTree) -> bool
     let mut shares = [[0.0f64; 16]; 64];
     let mut minima = [[0.0f64; 16]; 64];
     unpack::unpack(slots, &mut heads, &mut ids, &mut shares, &mut minima);
-    if is_still(top.slot, &mut heads, &mut ids, &mut shares, &mut minima) {
-        return true;
-    }
-    lone::lone_empty_root(t)
+    sound_columns(top.slot, &heads, &ids, &shares, &minima)
 }

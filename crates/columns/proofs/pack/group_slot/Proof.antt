@@ -24,7 +24,7 @@ array-read-s c = search needs
 returns : tie.Need-returns
 returns c =
     let a = c .before .before .args in
-    group-made _ (a .t1) (a .row) [] [] (c .before .bar-of .result) (c .bare-slot .ensures) (c .before .bar-of .ensures) refl refl refl (c .before .before .pre)
+    group-made _ (a .t1) (a .row) [] [] (c .before .bar-of .result) (c .bare-slot .ensures) (c .before .bar-of .ensures) refl refl refl
 
 pub group-slot-spec : {M : Type 1} → statement M
 group-slot-spec =

@@ -19,7 +19,7 @@ loop-holds : tie.Need-loop-holds Inv-loop μ-loop
 loop-holds c =
     let b = c .before .args in
     let p = c .before .pre in
-    packing-start (b .heads .now) (b .ids .now) (b .shares .now) (b .minima .now) (c .bare-slot .result) (c .bare-slot .ensures) (p .0) (p .1) (p .2) (p .3)
+    packing-start (b .heads .now) (b .ids .now) (b .shares .now) (b .minima .now) (c .bare-slot .result) (p .0) (p .1) (p .2) (p .3)
 
 mul-h : tie.Need-mul-h Inv-loop μ-loop
 mul-h c = search needs
@@ -46,7 +46,7 @@ element-copy-out-least : tie.Need-element-copy-out-least Inv-loop μ-loop
 element-copy-out-least c = let h = c .before .before .before .before in omega (arith, h .loop .inv .minima)
 
 slot-of-requires : tie.Need-slot-of-requires Inv-loop μ-loop
-slot-of-requires c κs = let h = c .before .before .before .before .before in h .before .before .pre .4 (h .loop .i)
+slot-of-requires c κs = search needs
 
 mul-a : tie.Need-mul-a Inv-loop μ-loop
 mul-a c = search needs

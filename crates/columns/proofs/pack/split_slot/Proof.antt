@@ -30,7 +30,7 @@ returns : tie.Need-returns
 returns c =
     let b = c .before .before in
     let a = b .before .args in
-    split-made _ (a .t1) (a .row) (a .shares) (a .minima) (b .axis-of .result) (c .before .bare-slot .ensures) (b .axis-of .ensures) (c .tiles-of .ensures) refl refl refl refl refl (b .before .pre)
+    split-made _ (a .t1) (a .row) (a .shares) (a .minima) (b .axis-of .result) (c .before .bare-slot .ensures) (b .axis-of .ensures) (c .tiles-of .ensures) refl refl refl refl refl
 
 pub split-slot-spec : {M : Type 1} → statement M
 split-slot-spec =

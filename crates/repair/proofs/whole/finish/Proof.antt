@@ -12,7 +12,7 @@ pack-requires : tie.Need-pack-requires
 pack-requires c κs =
     let s = c .before .sweep .ensures in
     let p = c .before .before .before .before .pre in
-    (s .long, p .1, p .2, p .3, s .slim (p .5))
+    (s .long, p .1, p .2, p .3)
 
 report-requires : tie.Need-report-requires
 report-requires c κs = search needs
@@ -24,7 +24,7 @@ returns c =
     let v = w .before .before .before in
     let x = v .args in
     let p = v .pre in
-    finishes (x .heads .now) (x .ids .now) (x .shares .now) (x .minima .now) (x .claimed .now) (x .acts .now) (x .n) _ _ (w .sweep .result) (x .revision) (x .root) _ (p .1) (p .2) (p .3) (w .sweep .ensures) (k .pack .ensures) (c .report .ensures .0) refl refl refl
+    finishes (x .heads .now) (x .ids .now) (x .shares .now) (x .minima .now) (x .claimed .now) (x .acts .now) (x .n) _ _ (w .sweep .result) (x .revision) (x .root) _ (p .1) (p .2) (p .3) (p .5) (w .sweep .ensures) (k .pack .ensures) (c .report .ensures .0) refl refl refl
 
 pub finish-spec : {M : Type 1} → statement M
 finish-spec = tie.close (tie.spec sweep-requires pack-requires report-requires returns)

@@ -14,14 +14,14 @@ returns : tie.Need-returns
 returns c =
     let v = c .before .before .before in
     let x = v .args in
-    λ t e K. over-still t (x .heads .now) (x .ids .now) (x .shares .now) (x .minima .now) K (sym (c .before .heads-over .ensures) ∙ c .if1 .taken)
+    λ r. over-still (x .root) r (x .heads .now) (x .ids .now) (x .shares .now) (x .minima .now) (v .pre) (sym (c .before .heads-over .ensures) ∙ c .if1 .taken)
 
 normalize-node-requires : tie.Need-normalize-node-requires
 normalize-node-requires c κs =
     let v = c .before .before .before .before .before .before .before .before .before .before in
     let x = v .args in
     let p = v .pre in
-    (start-sized (x .heads .now) (x .ids .now) (x .shares .now) (x .minima .now) _ _ (p .0) (p .1) (p .2) (p .3) (slim-heads (x .heads .now) (sym (c .before .before .before .before .before .before .before .before .heads-over .ensures) ∙ c .before .before .before .before .before .before .before .if1 .left)), omega arith)
+    (start-sized (x .heads .now) (x .ids .now) (x .shares .now) (x .minima .now) _ _ (p .heads) (p .ids) (p .shares) (p .minima) (slim-heads (x .heads .now) (sym (c .before .before .before .before .before .before .before .before .heads-over .ensures) ∙ c .before .before .before .before .before .before .before .if1 .left)), omega arith)
 
 sized-requires : tie.Need-sized-requires
 sized-requires c κs = search needs
@@ -44,7 +44,7 @@ returns-2 c =
     let x = v .args in
     let w = c .before .before .before .before .before .before .before .before .before .before .normalize-node in
     let few = sym (c .before .before .before .before .before .before .before .before .before .before .before .before .before .before .before .before .before .before .before .heads-over .ensures) ∙ c .before .before .before .before .before .before .before .before .before .before .before .before .before .before .before .before .before .before .if1 .left in
-    λ t e K. kept-still t (x .heads .now) (x .ids .now) (x .shares .now) (x .minima .now) K few _ _ _ (w .result .kept) (x .root) e (w .ensures) (c .before .before .before .before .before .enum-told .given .0 .0) (c .before .before .before .before .before .enum-told .given .1) (c .before .before .before .if2 .taken) (c .none-lost .result) (c .none-lost .ensures)
+    λ r. kept-still (x .root) r (x .heads .now) (x .ids .now) (x .shares .now) (x .minima .now) (v .pre) few _ _ _ (w .result .kept) (w .ensures) (c .before .before .before .before .before .enum-told .given .0 .0) (c .before .before .before .before .before .enum-told .given .1) (c .before .before .before .if2 .taken) (c .none-lost .result) (c .none-lost .ensures)
 
 returns-3 : tie.Need-returns-3
 returns-3 c =
@@ -53,7 +53,7 @@ returns-3 c =
     let w = c .before .before .before .before .before .before .before .normalize-node in
     let few = sym (c .before .before .before .before .before .before .before .before .before .before .before .before .before .before .before .before .heads-over .ensures) ∙ c .before .before .before .before .before .before .before .before .before .before .before .before .before .before .before .if1 .left in
     let long = c .before .before .before .before .before .sized .ensures in
-    λ t e K. kept-noted t (x .heads .now) (x .ids .now) (x .shares .now) (x .minima .now) K few _ _ _ (w .result .kept) (x .root) e (w .ensures) (c .before .before .enum-told .given .0 .0) (c .before .before .enum-told .given .1) (c .if2 .left) (omega (arith, long))
+    λ r. kept-noted (x .root) r (x .heads .now) (x .ids .now) (x .shares .now) (x .minima .now) (v .pre) few _ _ _ (w .result .kept) (w .ensures) (c .before .before .enum-told .given .0 .0) (c .before .before .enum-told .given .1) (c .if2 .left) (omega (arith, long))
 
 returns-4 : tie.Need-returns-4
 returns-4 c =
@@ -61,7 +61,7 @@ returns-4 c =
     let x = v .args in
     let w = c .before .before .before .before .before .normalize-node in
     let few = sym (c .before .before .before .before .before .before .before .before .before .before .before .before .before .before .heads-over .ensures) ∙ c .before .before .before .before .before .before .before .before .before .before .before .before .before .if1 .left in
-    λ t e K. gone-still t (x .heads .now) (x .ids .now) (x .shares .now) (x .minima .now) K few _ _ _ (w .result .kept) (x .root) e (w .ensures) (c .enum-told2 .given .1)
+    λ r. gone-still (x .root) r (x .heads .now) (x .ids .now) (x .shares .now) (x .minima .now) (v .pre) few _ _ _ (w .result .kept) (w .ensures) (c .enum-told2 .given .1)
 
 returns-5 : tie.Need-returns-5
 returns-5 c =
@@ -69,7 +69,7 @@ returns-5 c =
     let x = v .args in
     let w = c .before .before .before .before .before .normalize-node in
     let few = sym (c .before .before .before .before .before .before .before .before .before .before .before .before .before .before .heads-over .ensures) ∙ c .before .before .before .before .before .before .before .before .before .before .before .before .before .if1 .left in
-    λ t e K. wide-still t (x .heads .now) (x .ids .now) (x .shares .now) (x .minima .now) K few _ _ _ (w .result .kept) (x .root) e (w .ensures) (c .enum-told3 .given .1)
+    λ r. wide-still (x .root) r (x .heads .now) (x .ids .now) (x .shares .now) (x .minima .now) (v .pre) few _ _ _ (w .result .kept) (w .ensures) (c .enum-told3 .given .1)
 
 pub is-still-spec : {M : Type 1} → statement M
 is-still-spec =
