@@ -71,7 +71,7 @@ pub fn layout_into(
     items: &mut [[u64; 5]; 2304],
     rects: &mut [[f64; 4]; 2304],
 ) -> LaidOut
-    ensures { λ r. ⌜ LaysOut tree input (now (items .entry)) (now (rects .entry)) (now (items .exit)) (now (rects .exit)) r ⌝ }
+    ensures { λ r. ⌜ LaysOut (view tree) input (now (items .entry)) (now (rects .entry)) (now (items .exit)) (now (rects .exit)) r ⌝ }
 {
     layout::whole::layout_into(tree, input, items, rects)
 }

@@ -1,13 +1,13 @@
--- `vectors_ops::marked::row` is safe and ends. Assumes nothing.
+-- `vectors_ops::cases::row` is safe and ends. Assumes nothing.
 use mathlib.Core.Path.{_≡_}
 use Prim.Native.Nat.{_≤_, _-_}
 use lib.ListN.{length}
 use borrow.Author.Needs.{needs}
-use Rattle.vectors_ops.proofs.marked.row.Statement.{statement}
-use Rattle.vectors_ops.proofs.marked.row.Tie as tie
+use Rattle.vectors_ops.proofs.cases.row.Statement.{statement}
+use Rattle.vectors_ops.proofs.cases.row.Tie as tie
 
 abbrev Inv-loop : tie.InvT-loop
-Inv-loop n at₀ t₀ i₀ at t i = (i ≤ n) × (n ≤ 16) × (length at ≡ 16)
+Inv-loop n at₀ t₀ i₀ at t i = (i ≤ n) × (n ≤ 16) × (length at ≡ 16) × (t .root .slot ≡ 0) × (t .revision ≡ 7)
 
 abbrev μ-loop : tie.MeasureT-loop
 μ-loop n at₀ t₀ i₀ at t i = n - i

@@ -1,0 +1,21 @@
+-- What the contracts of the public calls come to, said of their rules.
+pub mod Words
+pub mod SolveExact
+pub mod LayoutExact
+pub mod RepairExact
+pub mod Stands
+pub mod StepNumbers
+pub mod ApplyExact
+pub mod LateExact
+pub mod OpsExact
+pub mod SplitExact
+pub mod SpecEnds
+pub mod SpecExact
+pub mod Wrong
+pub mod WrongLists
+pub mod MoveSeat
+pub mod MoveExact
+pub mod Unique
+pub mod RootKept
+pub mod RowExact
+pub mod SpecRoot

@@ -1,0 +1,163 @@
+-- Laws of the calls, over plain values: how what the parts left gives each call's promise. Assumes nothing.
+use mathlib.Core.Path.{_≡_, refl, sym, ap, subst, _∙_}
+use mathlib.Core.Bool.{Bool, true, false, _&&_}
+use mathlib.Core.List.{List, _++_}
+use Prim.Native.Nat.{ℕ, _-_, _≤_}
+use native.Mathlib.Omega.{arith}
+use lib.ListN.{length, take, replicate, take-append-drop}
+use lib.Seq.{length-take-le}
+use lib.Ieee.{Float}
+use Rattle.rules.specs.Numbers.{zero-f}
+use Rattle.rules.specs.Tree.{Arena, view}
+use Rattle.rules.specs.Sound.{sound}
+use Rattle.rules.specs.Spec.{fromSpec}
+use Rattle.rules.specs.Repair.{Repaired, repair}
+use Rattle.rules.specs.Operations.{Applied, apply}
+use Rattle.rules.specs.Frame.{Laid, layout}
+use Rattle.rules.specs.Solver.{Solved, viewSolution}
+use Rattle.rules.specs.Refusals.{refusalOf, answerOf}
+use Rattle.rules.specs.declared.model.TileTree.{TileTree}
+use Rattle.rules.specs.declared.operation.TileOp.{TileOp}
+use Rattle.rules.specs.declared.frame.LayoutInput.{LayoutInput}
+use Rattle.rules.specs.declared.solving.Solution.{Solution}
+use Rattle.rules.specs.declared.refusal.Answer.{Answer}
+use Rattle.rules.specs.declared.refusal.Answer.the-variants.{Accepted, Refused}
+use Rattle.rules.specs.declared.refusal.Refusal.{Refusal}
+use Rattle.rules.specs.declared.refusal.Refusal.the-variants.{BadTable, ArenaFull, TooWide, NotSound, BadInput, InvalidTileId, InvalidPaneId, InvalidTarget, InvalidOperation, DuplicatePane, RevisionExhausted, EmptyTabs, TooFewSplitChildren, ShareCountMismatch, InvalidShare, TooManySplitConstraints, InvalidSplitConstraint, InvalidActiveTab}
+use Rattle.columns.specs.Pack.{reported}
+use Rattle.spec.specs.Draft.{Drafted}
+use Rattle.repair.specs.Whole.{repaired}
+use Rattle.repair.specs.declared.Repairing.{Repairing}
+use Rattle.ops.specs.Steps.{applied}
+use Rattle.ops.specs.declared.Applying.{Applying}
+use Rattle.layout.specs.Whole.{LaysOut}
+use Rattle.layout.specs.declared.LaidOut.{LaidOut}
+use Rattle.solver.specs.Call.{Clear}
+use Rattle.tiling_c.specs.Lent.{Lot, lent, lotOk, opOk, opFrom, inputFrom}
+use Rattle.tiling_c.specs.Parts.{Tells, Holds, Keeps, Writes, Fills}
+use Rattle.tiling_c.specs.Calls.{Builds, Mends, Repairs, soundCode, Changes, Applies, LaysInto, Solves}
+
+-- ---- the number is 0 where it is accepted, and nowhere else
+
+refusal-number : (e : Refusal) → 1 ≤ refusalOf e .number
+refusal-number BadTable = omega arith
+refusal-number ArenaFull = omega arith
+refusal-number TooWide = omega arith
+refusal-number NotSound = omega arith
+refusal-number BadInput = omega arith
+refusal-number InvalidTileId = omega arith
+refusal-number InvalidPaneId = omega arith
+refusal-number InvalidTarget = omega arith
+refusal-number InvalidOperation = omega arith
+refusal-number (DuplicatePane p) = omega arith
+refusal-number RevisionExhausted = omega arith
+refusal-number EmptyTabs = omega arith
+refusal-number (TooFewSplitChildren n) = omega arith
+refusal-number (ShareCountMismatch n s) = omega arith
+refusal-number (InvalidShare i) = omega arith
+refusal-number (TooManySplitConstraints n m) = omega arith
+refusal-number (InvalidSplitConstraint i) = omega arith
+refusal-number (InvalidActiveTab a n) = omega arith
+
+module _ (a : Answer) (n : ℕ) (told : n ≡ answerOf a .number) where
+  zero-accepted : a ≡ Accepted → n ≡ 0
+  zero-accepted e = told ∙ ap (λ (x : Answer). answerOf x .number) e
+
+  not-refused : (e : Refusal) → a ≡ Refused e → n ≡ 0 → ⊥
+  not-refused e q z = let p : n ≡ refusalOf e .number = told ∙ ap (λ (x : Answer). answerOf x .number) q in omega (arith, p, z, refusal-number e)
+
+no-both : (b : Bool) → b ≡ false → b ≡ true → ⊥
+no-both b p q = let z : _≡_ {A = ℕ} 0 1 = cc in omega arith
+
+-- ---- from_spec
+
+pub builds : (bs : List ℕ) (a : Answer) (t : TileTree) (l′ : Lot) (out′ : List ℕ) (n : ℕ) → Drafted a t (fromSpec bs) → Holds (view t) l′ → Tells a 0 0 out′ n → Builds bs l′ out′ n
+builds bs a t l′ out′ n D H T =
+    record {
+      tree = subst (λ (x : Arena). Holds x l′) (D .holds) H;
+      told = subst (λ (x : Answer). Tells x 0 0 out′ n) (D .says) T;
+    }
+
+-- ---- repair
+
+pub repairs-bad : (l : Lot) (acts : List (List ℕ)) (out : List ℕ) → lotOk l ≡ false → Repairs l acts out l acts out 5
+repairs-bad l acts out b = record { bad = λ e. (refl, refl, refl, refl); good = λ e. absurd (no-both (lotOk l) b e) }
+
+pub repairs-good : (l : Lot) (acts : List (List ℕ)) (out : List ℕ) (t : TileTree) (d : Repairing) (l′ : Lot) (acts′ : List (List ℕ)) (out′ : List ℕ) (n count : ℕ) → lotOk l ≡ true
+    → view t ≡ lent l → repaired d ≡ repair (view t) → Writes (reported (d .actions)) acts acts′ count → Tells (d .answer) count 0 out′ n → Keeps n (view (d .tree)) l l′
+    → Repairs l acts out l′ acts′ out′ n
+repairs-good l acts out t d l′ acts′ out′ n count g v r W T K =
+    record {
+      bad = λ e. absurd (no-both (lotOk l) e g);
+      good = λ e. subst (λ (x : Repaired). Mends x l acts l′ acts′ out′ n) (r ∙ ap repair v)
+          (record {
+            told = subst (λ (k : ℕ). Tells (d .answer) k 0 out′ n) (W .count) T;
+            accepted = λ a. K .stored (zero-accepted (d .answer) n (T .number) a);
+            refused = λ f q. K .left (not-refused (d .answer) n (T .number) f q);
+            actions = W .list;
+          });
+    }
+
+-- ---- is_sound
+
+pub sound-bad : (c s : Bool) → c ≡ false → 5 ≡ soundCode c s
+sound-bad c s e = ap (λ (b : Bool). soundCode b s) (sym e)
+
+pub sound-is : (l : Lot) (a : Arena) (s : Bool) → lotOk l ≡ true → a ≡ lent l → s ≡ sound a → soundCode true s ≡ soundCode (lotOk l) (sound (lent l))
+sound-is l a s g v e = λ z. soundCode (sym g z) ((e ∙ ap sound v) z)
+
+-- ---- apply
+
+pub applies-bad : (l : Lot) (w : List ℕ) (f : Float) (out : List ℕ) → (lotOk l && opOk w) ≡ false → Applies l w f out l out 5
+applies-bad l w f out b = record { bad = λ e. (refl, refl, refl); good = λ e. absurd (no-both (lotOk l && opOk w) b e) }
+
+pub applies-good : (l : Lot) (w : List ℕ) (f : Float) (out : List ℕ) (t : TileTree) (op : TileOp) (d : Applying) (l′ : Lot) (out′ : List ℕ) (n : ℕ) → (lotOk l && opOk w) ≡ true
+    → view t ≡ lent l → op ≡ opFrom w f → applied d ≡ apply (view t) op → Tells (d .answer) 0 0 out′ n → Keeps n (view (d .tree)) l l′ → Applies l w f out l′ out′ n
+applies-good l w f out t op d l′ out′ n g v o r T K =
+    record {
+      bad = λ e. absurd (no-both (lotOk l && opOk w) e g);
+      good = λ e. subst (λ (x : Applied). Changes x l l′ out′ n) (r ∙ (λ z. apply (v z) (o z)))
+          (record {
+            told = T;
+            accepted = λ a. K .stored (zero-accepted (d .answer) n (T .number) a);
+            refused = λ f q. K .left (not-refused (d .answer) n (T .number) f q);
+          });
+    }
+
+-- ---- layout_into
+
+module _ (l : Lot) (q : List Float) (cs : List (List ℕ)) (qs : List (List Float)) (out : List ℕ) where
+  pub lays-bad : lotOk l ≡ false → LaysInto l q cs qs out cs qs out 5
+  lays-bad b = record { bad = λ e. (refl, refl, refl, refl); good = λ e. absurd (no-both (lotOk l) b e) }
+
+  pub lays-good : (a : Arena) (i : LayoutInput) (d : LaidOut) (cs′ : List (List ℕ)) (qs′ : List (List Float)) (out′ : List ℕ) (n : ℕ) → lotOk l ≡ true → a ≡ lent l → i ≡ inputFrom q
+      → LaysOut a i cs qs cs′ qs′ d → Tells (d .answer) (d .len) (d .revision) out′ n → LaysInto l q cs qs out cs′ qs′ out′ n
+  lays-good a i d cs′ qs′ out′ n g v o L T =
+      let same : layout a i ≡ layout (lent l) (inputFrom q) = λ z. layout (v z) (o z) in
+      let w : d .answer ≡ layout (lent l) (inputFrom q) .answer = ap (λ (x : Laid). x .answer) (L .right ∙ same) in
+      let r : d .revision ≡ layout (lent l) (inputFrom q) .revision = ap (λ (x : Laid). x .revision) (L .right ∙ same) in
+      record {
+        bad = λ e. absurd (no-both (lotOk l) e g);
+        good = λ e. record {
+          len = d .len;
+          frame = subst (λ (x : LaidOut). LaysOut (lent l) (inputFrom q) cs qs cs′ qs′ x) (λ z. record { answer = w z; revision = r z; len = d .len })
+              (subst (λ (x : LayoutInput). LaysOut (lent l) x cs qs cs′ qs′ d) o (subst (λ (x : Arena). LaysOut x i cs qs cs′ qs′ d) v L));
+          told = subst (λ (x : ℕ). Tells (layout (lent l) (inputFrom q) .answer) (d .len) x out′ n) r (subst (λ (x : Answer). Tells x (d .len) (d .revision) out′ n) w T);
+        };
+      }
+
+-- ---- solve
+
+pub solves : (x : Solved) (d : Solution) (xs xs′ : List Float) (out′ : List ℕ) (n : ℕ) → viewSolution d ≡ x → Clear (d .lengths)
+    → Tells (d .answer) (d .lengths .len) (d .passes) out′ n → Fills n (d .lengths .at) xs xs′ → Solves x xs xs′ out′ n
+solves x d xs xs′ out′ n r C T F =
+    let at = d .lengths .at in
+    let k = d .lengths .len in
+    let size : length (take k at) ≡ k = length-take-le k at (omega (arith, C .few, F .size)) in
+    subst (λ (y : Solved). Solves y xs xs′ out′ n) r
+    (record {
+      told = subst (λ (m : ℕ). Tells (d .answer) m (d .passes) out′ n) (sym size) T;
+      accepted = λ a. F .filled (zero-accepted (d .answer) n (T .number) a) ∙ sym (take-append-drop k at)
+          ∙ ap (λ (m : List Float). take k at ++ m) (C .past ∙ ap (λ (m : ℕ). replicate (16 - m) zero-f) (sym size));
+      refused = λ f q. F .left (not-refused (d .answer) n (T .number) f q);
+    })

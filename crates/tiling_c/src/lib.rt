@@ -1,0 +1,180 @@
+// The public calls for C and Rust: document 01's calls over lent arrays of numbers. None has a precondition.
+// An arena is `top` (root, revision) and the four columns of the crate columns. Each call returns document 01's number, 0 where it is accepted, and writes
+// `out`: the two details, and a count (actions, items of a frame, lengths) with what stands beside it. A number that is no kind, mode, axis, placement or
+// operation is refused with 5, and then nothing is written.
+ghost use mathlib.Core.Path.{_≡_};
+ghost use Rattle.rules.specs.Sound.{sound};
+ghost use Rattle.rules.specs.Solver.{solve};
+ghost use Rattle.tiling_c.specs.Lent.{lot, lent, codesOk, realsOf};
+ghost use Rattle.tiling_c.specs.Calls.{Builds, Repairs, soundCode, Applies, LaysInto, Solves};
+
+pub mod actions;
+pub mod arena;
+pub mod codes;
+pub mod operation;
+pub mod solving;
+pub mod tidy;
+pub mod told;
+
+// What a number that names nothing is answered with: document 01's 'bad input'.
+const BAD_INPUT: u64 = 5;
+
+// A tree from a spec table. A refused one writes the lone empty root.
+#[no_mangle]
+pub extern "C" fn tiling_from_spec(
+    bytes: &[u8],
+    top: &mut [u64; 2],
+    heads: &mut [[u64; 8]; 64],
+    ids: &mut [[u64; 16]; 64],
+    shares: &mut [[f64; 16]; 64],
+    minima: &mut [[f64; 16]; 64],
+    out: &mut [u64; 4],
+) -> u64
+    ensures { λ r. ⌜ Builds (now (bytes .entry)) (lot (now (top .exit)) (now (heads .exit)) (now (ids .exit)) (now (shares .exit)) (now (minima .exit))) (now (out .exit)) r ⌝ }
+{
+    let d = tiling::from_spec(bytes);
+    let tree = d.tree;
+    arena::store(tree, top, heads, ids, shares, minima);
+    let answer = d.answer;
+    told::tell(answer, 0, 0, out)
+}
+
+// An arena made sound, and its actions: three numbers each, kind, tile and pane. A refused one is left as it was.
+#[no_mangle]
+pub extern "C" fn tiling_repair(
+    top: &mut [u64; 2],
+    heads: &mut [[u64; 8]; 64],
+    ids: &mut [[u64; 16]; 64],
+    shares: &mut [[f64; 16]; 64],
+    minima: &mut [[f64; 16]; 64],
+    acts: &mut [[u64; 3]; 1300],
+    out: &mut [u64; 4],
+) -> u64
+    ensures { λ r. ⌜ Repairs (lot (now (top .entry)) (now (heads .entry)) (now (ids .entry)) (now (shares .entry)) (now (minima .entry))) (now (acts .entry)) (now (out .entry)) (lot (now (top .exit)) (now (heads .exit)) (now (ids .exit)) (now (shares .exit)) (now (minima .exit))) (now (acts .exit)) (now (out .exit)) r ⌝ }
+{
+    if !codes::codes_ok(heads) {
+        return BAD_INPUT;
+    }
+    let t = arena::load(top, heads, ids, shares, minima);
+    let d = tiling::repair(t);
+    let report = d.actions;
+    let count = actions::write(report, acts);
+    let answer = d.answer;
+    let n = told::tell(answer, count as u64, 0, out);
+    let tree = d.tree;
+    arena::keep(n, tree, top, heads, ids, shares, minima);
+    n
+}
+
+// 0 where the arena is sound, 4 where it is not.
+#[no_mangle]
+pub extern "C" fn tiling_is_sound(
+    top: &[u64; 2],
+    heads: &[[u64; 8]; 64],
+    ids: &[[u64; 16]; 64],
+    shares: &[[f64; 16]; 64],
+    minima: &[[f64; 16]; 64],
+) -> u64
+    ensures { λ r. ⌜ r ≡ soundCode (codesOk (now (heads .entry))) (sound (lent (lot (now (top .entry)) (now (heads .entry)) (now (ids .entry)) (now (shares .entry)) (now (minima .entry))))) ⌝ }
+{
+    if !codes::codes_ok(heads) {
+        return BAD_INPUT;
+    }
+    arena::sized(heads, ids, shares, minima);
+    let plain = tidy::tidy(heads);
+    let words = *top;
+    if repair::whole::sound_columns(words[0], &plain, ids, shares, minima) {
+        return 0;
+    }
+    4
+}
+
+// One change. A refused one leaves the arena as it was.
+#[no_mangle]
+pub extern "C" fn tiling_apply(
+    top: &mut [u64; 2],
+    heads: &mut [[u64; 8]; 64],
+    ids: &mut [[u64; 16]; 64],
+    shares: &mut [[f64; 16]; 64],
+    minima: &mut [[f64; 16]; 64],
+    words: &[u64; 8],
+    fraction: f64,
+    out: &mut [u64; 4],
+) -> u64
+    ensures { λ r. ⌜ Applies (lot (now (top .entry)) (now (heads .entry)) (now (ids .entry)) (now (shares .entry)) (now (minima .entry))) (now (words .entry)) fraction (now (out .entry)) (lot (now (top .exit)) (now (heads .exit)) (now (ids .exit)) (now (shares .exit)) (now (minima .exit))) (now (out .exit)) r ⌝ }
+{
+    if !codes::codes_ok(heads) {
+        return BAD_INPUT;
+    }
+    if !codes::op_ok(words) {
+        return BAD_INPUT;
+    }
+    let t = arena::load(top, heads, ids, shares, minima);
+    let op = operation::op_of(words, fraction);
+    let d = tiling::apply(t, op);
+    let answer = d.answer;
+    let n = told::tell(answer, 0, 0, out);
+    let changed = d.tree;
+    arena::keep(n, changed, top, heads, ids, shares, minima);
+    n
+}
+
+// The frame of an arena as one stream: `out` has the number of its items. A refusal leaves the stream as it was.
+#[no_mangle]
+pub extern "C" fn tiling_layout_into(
+    top: &[u64; 2],
+    heads: &[[u64; 8]; 64],
+    ids: &[[u64; 16]; 64],
+    shares: &[[f64; 16]; 64],
+    minima: &[[f64; 16]; 64],
+    input: &[f64; 8],
+    items: &mut [[u64; 5]; 2304],
+    rects: &mut [[f64; 4]; 2304],
+    out: &mut [u64; 4],
+) -> u64
+    ensures { λ r. ⌜ LaysInto (lot (now (top .entry)) (now (heads .entry)) (now (ids .entry)) (now (shares .entry)) (now (minima .entry))) (now (input .entry)) (now (items .entry)) (now (rects .entry)) (now (out .entry)) (now (items .exit)) (now (rects .exit)) (now (out .exit)) r ⌝ }
+{
+    if !codes::codes_ok(heads) {
+        return BAD_INPUT;
+    }
+    arena::sized(heads, ids, shares, minima);
+    let plain = tidy::tidy(heads);
+    let words = *top;
+    let given = operation::input_of(input);
+    let d = layout::whole::layout_columns(
+        words[0],
+        words[1],
+        given,
+        &plain,
+        ids,
+        shares,
+        minima,
+        items,
+        rects,
+    );
+    let answer = d.answer;
+    told::tell(answer, d.len as u64, d.revision, out)
+}
+
+// The lengths of a split's children: `out` has their number and the passes. A refusal leaves the lengths as they were.
+#[no_mangle]
+pub extern "C" fn tiling_solve(
+    total: f64,
+    shares: &[f64; 16],
+    share_count: u64,
+    minima: &[f64; 16],
+    minimum_count: u64,
+    lengths: &mut [f64; 16],
+    out: &mut [u64; 4],
+) -> u64
+    ensures { λ r. ⌜ Solves (solve total (realsOf (now (shares .entry)) «share_count») (realsOf (now (minima .entry)) «minimum_count»)) (now (lengths .entry)) (now (lengths .exit)) (now (out .exit)) r ⌝ }
+{
+    let parts = solving::reals_of(shares, share_count);
+    let least = solving::reals_of(minima, minimum_count);
+    let d = tiling::solve(total, parts, least);
+    let answer = d.answer;
+    let solved = d.lengths;
+    let n = told::tell(answer, solved.len as u64, d.passes, out);
+    solving::keep(n, solved, lengths);
+    n
+}
