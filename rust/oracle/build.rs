@@ -1,7 +1,9 @@
 //! Finds the original's sources and tells the wrapper modules where they are.
 //!
 //! The path comes from UNDERSTORY_SRC; without it, the folder that stands
-//! beside the repository is taken. The sources are never copied in here.
+//! beside the repository is taken. The sources are never copied in here. Where
+//! they are not at hand, all is built without the original: the cfg `original`
+//! says that it is there.
 
 use std::env;
 use std::path::PathBuf;
@@ -10,18 +12,24 @@ const FILES: [&str; 5] = ["tree.rs", "util.rs", "spec.rs", "snapshot.rs", "frame
 
 fn main() {
     println!("cargo:rerun-if-env-changed=UNDERSTORY_SRC");
+    println!("cargo:rustc-check-cfg=cfg(original)");
     let folder = sources();
-    for file in FILES {
-        let path = folder.join(file);
-        if !path.is_file() {
-            panic!(
-                "the original's {file} is not in {}: set UNDERSTORY_SRC to the folder that holds it",
-                folder.display()
-            );
-        }
+    let paths = FILES.map(|file| folder.join(file));
+    for path in &paths {
         println!("cargo:rerun-if-changed={}", path.display());
     }
-    println!("cargo:rustc-env=UNDERSTORY_SRC={}", folder.display());
+    match paths.iter().find(|path| !path.is_file()) {
+        None => {
+            println!("cargo:rustc-cfg=original");
+            println!("cargo:original=1");
+            println!("cargo:rustc-env=UNDERSTORY_SRC={}", folder.display());
+        }
+        Some(missing) => println!(
+            "cargo:warning=the original is left out, since {} is not there: \
+             UNDERSTORY_SRC names the folder that holds it",
+            missing.display()
+        ),
+    }
 }
 
 fn sources() -> PathBuf {

@@ -5,20 +5,23 @@
 //!
 //! Without --kind every kind is run. --count is in answers (a case of the kind
 //! operations has 20). --case runs one case only. --left and --right name the
-//! implementations, by default the original and the model.
+//! implementations, by default the original and the library. Where the
+//! original's sources were not at hand, the model stands in its place.
 
 use std::panic::{AssertUnwindSafe, catch_unwind};
 use std::process::ExitCode;
 use std::time::Instant;
 
+use compare::host::Host;
+use compare::library::Library;
 use oracle::check::{Input, KINDS, Kind, compare, shown_answer, shown_input};
 use oracle::engine::Engine;
 use oracle::model::Model;
-use oracle::original::Original;
 use oracle::shrink::shrunk;
+use oracle::the_original;
 
 const USAGE: &str = "compare [--kind solve|repair|operations|layout|spec] [--seed N] [--count N] \
-                     [--case N] [--left original|model] [--right original|model]";
+                     [--case N] [--left NAME] [--right NAME]; the names: original, model, library, host";
 
 struct Request {
     kinds: Vec<Kind>,
@@ -32,10 +35,19 @@ struct Request {
 /// Every implementation that can be compared; a new one is added here.
 fn engine(name: &str) -> Option<Box<dyn Engine>> {
     match name {
-        "original" => Some(Box::new(Original)),
+        "original" => Some(original_or_model()),
         "model" => Some(Box::new(Model)),
+        "library" => Some(Box::new(Library::default())),
+        "host" => Some(Box::new(Host::default())),
         _ => None,
     }
+}
+
+fn original_or_model() -> Box<dyn Engine> {
+    the_original().unwrap_or_else(|| {
+        println!("the original is not at hand (UNDERSTORY_SRC): the model stands in its place");
+        Box::new(Model)
+    })
 }
 
 fn main() -> ExitCode {
@@ -51,27 +63,21 @@ fn main() -> ExitCode {
 }
 
 fn request(mut words: impl Iterator<Item = String>) -> Option<Request> {
-    let mut request = Request {
-        kinds: KINDS.to_vec(),
-        seed: 1,
-        count: 1_000_000,
-        case: None,
-        left: Box::new(Original),
-        right: Box::new(Model),
-    };
+    let (mut kinds, mut seed, mut count, mut case) = (KINDS.to_vec(), 1, 1_000_000, None);
+    let (mut left, mut right) = ("original".to_string(), "library".to_string());
     while let Some(word) = words.next() {
         let value = words.next()?;
         match word.as_str() {
-            "--kind" => request.kinds = vec![*KINDS.iter().find(|kind| kind.name() == value)?],
-            "--seed" => request.seed = value.parse().ok()?,
-            "--count" => request.count = value.parse().ok()?,
-            "--case" => request.case = Some(value.parse().ok()?),
-            "--left" => request.left = engine(&value)?,
-            "--right" => request.right = engine(&value)?,
+            "--kind" => kinds = vec![*KINDS.iter().find(|kind| kind.name() == value)?],
+            "--seed" => seed = value.parse().ok()?,
+            "--count" => count = value.parse().ok()?,
+            "--case" => case = Some(value.parse().ok()?),
+            "--left" => left = value,
+            "--right" => right = value,
             _ => return None,
         }
     }
-    Some(request)
+    Some(Request { kinds, seed, count, case, left: engine(&left)?, right: engine(&right)? })
 }
 
 /// All cases of a kind, or the one asked for; true if no difference was found.

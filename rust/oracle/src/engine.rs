@@ -1,7 +1,7 @@
 //! What an implementation of document 01 must answer to be compared.
 //!
 //! The original (with document 01's own parts put around it) and the model are
-//! two; the library's boundary becomes a third.
+//! two; the library is a third (`rust/compare/src/library.rs`).
 
 use crate::value::{
     LayoutAnswer, LayoutInput, Reals, RepairAnswer, SolveAnswer, TileOp, TileTree, TreeAnswer,

@@ -1,5 +1,6 @@
 //! The original in an arena of its own over hundreds of operations, beside the
 //! model, which takes emptied slots again: equal up to tile ids all the way.
+#![cfg(original)]
 
 mod common;
 

@@ -1,4 +1,5 @@
 //! What the readings of document 01 say of the solver and of frames.
+#![cfg(original)]
 
 mod common;
 

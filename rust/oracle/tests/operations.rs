@@ -1,5 +1,6 @@
 //! What the readings of document 01 say of operations, on the original (with
 //! document 01's own parts around it) and on the model.
+#![cfg(original)]
 
 mod common;
 

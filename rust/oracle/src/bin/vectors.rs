@@ -17,7 +17,7 @@ use oracle::generate::rng::Rng;
 use oracle::generate::solver::solver_input;
 use oracle::generate::tables::table;
 use oracle::model::Model;
-use oracle::original::Original;
+use oracle::the_original;
 use oracle::value::TileTree;
 use oracle::wire::Writer;
 
@@ -44,10 +44,11 @@ const FILES: [File; 5] = [
 ];
 
 fn main() {
+    let mut original = the_original().expect("UNDERSTORY_SRC names the original's folder");
     let folder = std::env::args().nth(1).map_or_else(default_folder, PathBuf::from);
     fs::create_dir_all(&folder).expect("the folder can be made");
     for file in &FILES {
-        write(&folder, file);
+        write(&folder, file, original.as_mut());
     }
 }
 
@@ -55,10 +56,11 @@ fn default_folder() -> PathBuf {
     Path::new(env!("CARGO_MANIFEST_DIR")).join("vectors")
 }
 
-fn write(folder: &Path, file: &File) {
+fn write(folder: &Path, file: &File, original: &mut dyn Engine) {
     let mut out = Writer::default();
     out.bytes.extend(file.magic);
-    let bodies: Vec<Vec<u8>> = by_hand(file.kind).into_iter().chain(drawn(file)).collect();
+    let mut bodies = by_hand(file.kind, original);
+    bodies.extend(drawn(file, original));
     out.number(bodies.len() as u64);
     let mut largest = 0;
     for body in &bodies {
@@ -78,29 +80,32 @@ fn write(folder: &Path, file: &File) {
 }
 
 /// Arenas made by hand stand before those that are drawn.
-fn by_hand(kind: Kind) -> Vec<Vec<u8>> {
+fn by_hand(kind: Kind, original: &mut dyn Engine) -> Vec<Vec<u8>> {
     if kind != Kind::Repair {
         return Vec::new();
     }
-    hand::arenas().iter().map(confirmed_repair).collect()
+    hand::arenas().iter().map(|tree| confirmed_repair(tree, original)).collect()
 }
 
-fn confirmed_repair(tree: &TileTree) -> Vec<u8> {
+fn confirmed_repair(tree: &TileTree, original: &mut dyn Engine) -> Vec<u8> {
     let input = Input::Repair(tree.clone());
-    assert!(!differs(&input, &mut Original, &mut Model), "the original differs on {}", shown(tree));
+    assert!(!differs(&input, original, &mut Model), "the original differs on {}", shown(tree));
     repair_body(tree)
 }
 
-fn drawn(file: &File) -> impl Iterator<Item = Vec<u8>> + '_ {
+fn drawn<'a>(
+    file: &'a File,
+    original: &'a mut dyn Engine,
+) -> impl Iterator<Item = Vec<u8>> + use<'a> {
     (0..file.cases).map(|case| {
-        confirm(file.kind, case);
+        confirm(file.kind, case, original);
         body(file.kind, &mut file.kind.rng(SEED, case))
     })
 }
 
 /// No answer is stored that the original does not give as well.
-fn confirm(kind: Kind, case: u64) {
-    if let Err(input) = compare(kind, SEED, case, &mut Original, &mut Model) {
+fn confirm(kind: Kind, case: u64, original: &mut dyn Engine) {
+    if let Err(input) = compare(kind, SEED, case, original, &mut Model) {
         panic!("the original differs on {} case {case}:\n{}", kind.name(), shown_input(&input));
     }
 }

@@ -7,6 +7,7 @@ mod convert;
 mod engine;
 mod frames;
 mod history;
+pub mod own;
 mod table;
 
 pub use engine::{Original, bare_apply};

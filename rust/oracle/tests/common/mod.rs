@@ -3,6 +3,7 @@
 
 use oracle::engine::Engine;
 use oracle::model::Model;
+#[cfg(original)]
 use oracle::original::Original;
 use oracle::value::{
     Axis, DockTarget, Placement, Reals, Refusal, Slot, TabBarPlacement, TileId, TileOp, TileTree,
@@ -13,8 +14,9 @@ pub use Axis::{Horizontal, Vertical};
 pub use Placement::{After, Before};
 pub use TabBarPlacement::{Hidden, Left, Top};
 
-/// Runs a test on the original and on the model.
+/// Runs a test on the original, if it is at hand, and on the model.
 pub fn on_both(test: impl Fn(&mut dyn Engine)) {
+    #[cfg(original)]
     test(&mut Original);
     test(&mut Model);
 }

@@ -1,0 +1,55 @@
+//! The lengths of a split's children.
+
+use crate::TileError;
+use crate::arena::WIDTH;
+use crate::boundary;
+use crate::error::answer;
+use crate::model::index_of;
+
+/// How a length is divided.
+#[derive(Clone, Copy, Debug, PartialEq)]
+pub struct Solution {
+    at: [f64; WIDTH],
+    count: usize,
+    passes: u64,
+}
+
+impl Solution {
+    /// One length for each child.
+    #[must_use]
+    pub fn lengths(&self) -> &[f64] {
+        &self.at[..self.count]
+    }
+
+    /// How often the solver went over the children to hold some at their
+    /// minimum.
+    #[must_use]
+    pub const fn passes(&self) -> u64 {
+        self.passes
+    }
+}
+
+/// Divides `total` among 0 to 16 children by their shares, none below its
+/// minimum where that can be.
+///
+/// # Errors
+///
+/// [`TileError::BadInput`] for more than 16 children, unequal counts or numbers
+/// out of range.
+pub fn solve(total: f64, shares: &[f64], minima: &[f64]) -> Result<Solution, TileError> {
+    let mut at = [0.0; WIDTH];
+    let mut out = [0; 4];
+    let parts = (&row(shares), shares.len() as u64);
+    let least = (&row(minima), minima.len() as u64);
+    let number = boundary::solve(total, parts, least, &mut at, &mut out);
+    answer(number, &out)?;
+    Ok(Solution { at, count: index_of(out[2]).min(WIDTH), passes: out[3] })
+}
+
+/// The first 16; the count tells the library that there are more.
+fn row(numbers: &[f64]) -> [f64; WIDTH] {
+    let mut row = [0.0; WIDTH];
+    let count = numbers.len().min(WIDTH);
+    row[..count].copy_from_slice(&numbers[..count]);
+    row
+}
