@@ -33,8 +33,8 @@ use Rattle.ops.specs.declared.Applying.{Applying}
 use Rattle.layout.specs.Whole.{LaysOut}
 use Rattle.layout.specs.declared.LaidOut.{LaidOut}
 use Rattle.solver.specs.Call.{Clear}
-use Rattle.tiling_c.specs.Lent.{Lot, lent, lotOk, opOk, opFrom, inputFrom}
-use Rattle.tiling_c.specs.Parts.{Tells, Holds, Keeps, Writes, Fills}
+use Rattle.lending.specs.Lent.{Lot, lent, lotOk, opOk, opFrom, inputFrom}
+use Rattle.lending.specs.Parts.{Tells, Holds, Keeps, Writes, Fills}
 use Rattle.tiling_c.specs.Calls.{Builds, Mends, Repairs, soundCode, Changes, Applies, LaysInto, Solves}
 
 -- ---- the number is 0 where it is accepted, and nowhere else

@@ -1,7 +1,7 @@
 -- `tiling_c::tiling_repair`: codes that are none, or what repair answered. Assumes nothing.
 use mathlib.Core.Path.{sym, _∙_}
 use borrow.Author.Tests.{not-true, not-false}
-use Rattle.tiling_c.specs.Lent.{lot}
+use Rattle.lending.specs.Lent.{lot}
 use Rattle.tiling_c.proofs.CallLaws.{repairs-bad, repairs-good}
 use borrow.Author.Needs.{needs}
 use Rattle.tiling_c.proofs.tiling_repair.Statement.{statement}
