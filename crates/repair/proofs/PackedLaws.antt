@@ -49,7 +49,7 @@ module _ (t : TileTree) (hs xs : List (List ℕ)) (ss ms : List (List Float)) (a
       go : (b : Answer) → s .answer ≡ b → repaired r ≡ x
       go Accepted q =
           let revised = Q .tree q ∙ ap (λ (v : ℕ). arenaFrom (s .root) v hs xs ss ms) (sym (ap (λ (y : Arena). y .revision) e)) in
-          λ z. record { answer = (Q .answer ∙ C .answer) z; tree = (revised ∙ sym (C .tree q)) z; actions = Q .actions q (x .actions) (C .actions q) z }
+          λ z. record { answer = (Q .answer ∙ C .answer) z; tree = (revised ∙ sym (C .tree q)) z; actions = Q .actions q (x .actions) (C .actions) z }
       go (Refused f) q =
           let (tree, none) = Q .given f q in
           λ z. record { answer = (Q .answer ∙ C .answer) z; tree = (ap view tree ∙ sym e ∙ sym (C .given f q .0)) z; actions = (none ∙ sym (C .given f q .1)) z }

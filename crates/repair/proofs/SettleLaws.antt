@@ -7,7 +7,7 @@ use Prim.Native.Nat.{ℕ, zero, suc, _+_, _≤_, _<_}
 use native.Mathlib.Omega.{arith}
 use borrow.Author.Tests.{le-ltb, ltb-true, ltb-false}
 use lib.Dec.{ltb}
-use lib.ListN.{length, getD, set}
+use lib.ListN.{length, getD, take, set}
 use lib.Ieee.{Float}
 use Rattle.rules.specs.Lists.{anyOf}
 use Rattle.rules.specs.Tree.{Node, Arena, tile, setNode, emptySlots, emptyGroup, wideNode}
@@ -24,7 +24,7 @@ use Rattle.normalize.specs.Work.{Cols, nodesIn, Sized, Shows}
 use Rattle.normalize.specs.Walked.{Walked}
 use Rattle.normalize.specs.declared.Kept.{Kept}
 use Rattle.normalize.specs.declared.Kept.the-variants.{At, Gone, Wide}
-use Rattle.columns.specs.Columns.{nodesFrom, Slim, Lists}
+use Rattle.columns.specs.Columns.{nodesFrom, Slim, codeOf, Lists}
 use Rattle.columns.specs.ColumnLaws.{nodes-head, slim-set}
 use Rattle.columns.specs.Pack.{overHead, overKind, overOf, firstOf}
 use Rattle.columns.specs.PackLaws.{or-left}
@@ -73,7 +73,7 @@ refused-comes a x hs xs ss ms acts e r R q =
     record {
       answer = R .answer ∙ sym (ap (λ (y : Repaired). y .answer) q);
       tree = λ p. absurd (not-both p (R .answer));
-      actions = λ p. absurd (not-both p (R .answer));
+      actions = (λ z. take (R .count z) acts) ∙ sym (ap (λ (y : Repaired). map codeOf (y .actions)) q);
       given = λ f p. (ap (λ (y : Repaired). y .tree) q, ap (λ (y : Repaired). y .actions) q);
     }
 
@@ -98,7 +98,7 @@ module _ (gs xs : List (List ℕ)) (ss ms : List (List Float)) (cs : List Bool) 
       record {
         answer = F .answer ∙ sym (ap (λ (y : Repaired). y .answer) q);
         tree = λ p. ap (λ (y : Repaired). y .tree) q ∙ (λ z. record { root = tile (sym (F .under) z); revision = a .revision; nodes = nodes z; over = over z });
-        actions = λ p. subst (λ (y : Repaired). Lists acts′ (r .count) (y .actions)) (sym q) (S .lists xs ss ms lx ls lm l g);
+        actions = subst (λ (y : Repaired). Lists acts′ (r .count) (y .actions)) (sym q) (S .lists xs ss ms lx ls lm l g);
         given = λ f p. absurd (not-both (F .answer) p);
       }
 

@@ -24,11 +24,11 @@ pub record Left (hs xs : List (List ℕ)) (ss ms : List (List Float)) (r : Settl
   pub plain : r .answer ≡ Accepted → Plain hs xs ss ms
   pub whole : r .answer ≡ Accepted → anyOf overHead hs ≡ false
 
--- columns and actions show x, the rule's answer for the arena a. A refused one says nothing of the columns, and the rule's tree is then a
+-- columns and actions show x, the rule's answer for the arena a. A refused one says nothing of the columns, and lists nothing
 pub record Comes (a : Arena) (x : Repaired) (hs xs : List (List ℕ)) (ss ms : List (List Float)) (acts : List (List ℕ)) (r : Settled) : Type 0 where
   pub answer : r .answer ≡ x .answer
   pub tree : r .answer ≡ Accepted → x .tree ≡ arenaFrom (r .root) (a .revision) hs xs ss ms
-  pub actions : r .answer ≡ Accepted → Lists acts (r .count) (x .actions)
+  pub actions : Lists acts (r .count) (x .actions)
   pub given : (e : Refusal) → r .answer ≡ Refused e → (x .tree ≡ a) × (x .actions ≡ [])
 
 -- normalize_with_report: the same with any list of free slots whose first is the spare one
