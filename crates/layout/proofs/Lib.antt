@@ -1,5 +1,4 @@
 pub mod Laws
 pub mod TileLaws
 pub mod ReadLaws
-pub mod SoundLaws
 pub mod WholeLaws

@@ -21,7 +21,7 @@ use Rattle.layout.specs.Grid.{Grid}
 use Rattle.layout.specs.Whole.{LaysOut}
 use Rattle.layout.specs.declared.LaidOut.{LaidOut}
 use Rattle.layout.proofs.ReadLaws.{items-back, Wrote, wrote-all}
-use Rattle.layout.proofs.SoundLaws.{sound-slim}
+use Rattle.repair.proofs.SoundLaws.{sound-slim}
 
 -- ---- the columns of a sound arena
 

@@ -1,5 +1,6 @@
 pub mod LoneLaws
 pub mod StartLaws
 pub mod StillLaws
+pub mod SoundLaws
 pub mod SettleLaws
 pub mod PackedLaws

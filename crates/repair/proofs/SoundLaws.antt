@@ -89,7 +89,7 @@ module _ (root v : ℕ) (hs xs : List (List ℕ)) (ss ms : List (List Float)) (P
           let far : 64 ≤ root = ltb-false root 64 q in
           never (sym (ap (λ (n : Node). sameNode n emptyGroup) (sym (past ns root (omega (arith, long)))) ∙ e))
 
-  sound-whole : sound a ≡ true → anyOf overOf hs ≡ false
+  pub sound-whole : sound a ≡ true → anyOf overOf hs ≡ false
   sound-whole e = by (isAccepted (repair a .answer) && isNone (repair a .actions)) refl (sym (sound-is a long) ∙ e)
     where
       by : (b : Bool) → (isAccepted (repair a .answer) && isNone (repair a .actions)) ≡ b → (b || loneEmptyRoot a) ≡ true → anyOf overOf hs ≡ false
