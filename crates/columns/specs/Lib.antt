@@ -4,5 +4,4 @@ pub mod ColumnLaws
 pub mod OverLaws
 pub mod ActionLaws
 pub mod PackLaws
-pub mod SlotLaws
 pub mod RowLaws

@@ -1,5 +1,5 @@
 -- Laws of one slot read from columns and written to them. Assumes nothing.
-use mathlib.Core.Path.{_≡_, refl, sym, ap, _∙_}
+use mathlib.Core.Path.{_≡_, refl, ap, _∙_}
 use mathlib.Core.Bool.{Bool, false, _||_}
 use mathlib.Core.List.{List, [], _∷_}
 use Prim.Native.Nat.{ℕ, zero, suc}
@@ -7,7 +7,7 @@ use lib.Dec.{ltb}
 use lib.Ieee.{Float}
 use lib.ListN.{length, getD, set, length-set}
 use Rattle.rules.specs.Lists.{anyOf}
-use Rattle.rules.specs.Tree.{Node, empty, viewSlot, overSlot}
+use Rattle.rules.specs.Tree.{viewSlot, overSlot}
 use Rattle.rules.specs.declared.model.Slot.{Slot}
 use Rattle.columns.specs.Columns.{nodesFrom}
 use Rattle.columns.specs.Pack.{headOf, idsOf, sharesOf, minimaOf, Puts, overHead, overKind, overOf, Even}
@@ -26,7 +26,7 @@ over-used (suc (suc zero)) h e =
     or-left a b (or-left (a || b) (ltb 16 (getD h 6 0)) e)
 over-used (suc (suc (suc n))) h e = e
 
-head-whole : (hs : List (List ℕ)) (i : ℕ) → anyOf overHead hs ≡ false → overHead (getD hs i []) ≡ false
+pub head-whole : (hs : List (List ℕ)) (i : ℕ) → anyOf overHead hs ≡ false → overHead (getD hs i []) ≡ false
 unfolding anyOf
 head-whole [] i e = refl
 head-whole (h ∷ hs) zero e = or-left (overHead h) (anyOf overHead hs) e

@@ -1,11 +1,9 @@
-// A tree's slots: how many they are, which is empty, and the lowest of those.
+// A tree's slots: how many they are, and which is empty.
 use rules::model::Kind;
 use rules::model::Slot;
 ghost use mathlib.Core.Path.{_≡_};
-ghost use mathlib.Core.List.{map};
 ghost use lib.ListN.{length};
-ghost use Rattle.rules.specs.Tree.{viewSlot, isEmpty, emptySlots};
-ghost use Rattle.columns.specs.Pack.{firstOf};
+ghost use Rattle.rules.specs.Tree.{viewSlot, isEmpty};
 
 // The slots of a tree are 64.
 pub fn sized(slots: [Slot; 64])
@@ -22,19 +20,4 @@ pub fn is_empty(s: Slot) -> bool
         Kind::Tabs(_) => false,
         Kind::Split(_) => false,
     }
-}
-
-// The lowest empty slot, 64 where there is none.
-pub fn first_empty(slots: [Slot; 64]) -> u64
-    ensures { λ r. ⌜ r ≡ firstOf (emptySlots (map viewSlot slots)) ⌝ }
-{
-    let mut i = 0usize;
-    while i < 64 {
-        let s = slots[i];
-        if is_empty(s) {
-            return i as u64;
-        }
-        i += 1;
-    }
-    64
 }

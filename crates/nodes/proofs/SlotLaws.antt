@@ -1,7 +1,7 @@
 -- Laws of slots read and written, of a slot's lists, and of the slots that new tiles take. Assumes nothing.
 use mathlib.Core.Path.{_≡_, refl, sym, ap, subst, _∙_}
 use mathlib.Core.Bool.{Bool, true, false, _&&_, _||_, cond}
-use mathlib.Core.List.{List, [], _∷_, map}
+use mathlib.Core.List.{List, [], _∷_}
 use mathlib.Core.Option.{none, some}
 use Prim.Native.Nat.{ℕ, zero, suc, _+_, _-_, _≤_, _<_}
 use native.Mathlib.Omega.{arith}
@@ -9,10 +9,10 @@ use native.Mathlib.Numerals.{add-one}
 use native.Mathlib.Nat.{le-of-suc-le-suc}
 use borrow.Author.Tests.{eq-eqb, ne-eqb, le-leb, lt-leb, lt-ltb, le-ltb, ltb-false}
 use lib.Dec.{leb, ltb}
-use lib.ListN.{length, getD, drop, set, length-map, length-take, drop-of-length-le, List·getD-eq-default}
+use lib.ListN.{length, getD, drop, set, length-take, drop-of-length-le, List·getD-eq-default}
 use lib.Ieee.{Float}
 use lib.Seq.{drop-cons}
-use Rattle.rules.specs.Lists.{anyOf, removeAt}
+use Rattle.rules.specs.Lists.{removeAt}
 use Rattle.rules.specs.Numbers.{isValidSplitFraction}
 use Rattle.rules.specs.Tree.{Node, empty, pane, tabs, split, ids, nodeAt, isEmpty, emptyBy, emptyFrom, emptySlots, nodeOf, overBy, overSlot, viewSlot, panesOf}
 use Rattle.rules.specs.Target.{existing, aGroup, besideBy, validateTarget}
@@ -29,8 +29,9 @@ use Rattle.rules.specs.declared.operation.DockTarget.the-variants.{Root, Split 
 use Rattle.rules.specs.declared.refusal.Refusal.the-variants.{InvalidTileId, InvalidTarget}
 use Rattle.forest.specs.Lists.{All, never}
 use Rattle.lists.specs.Exact.{IsIds}
-use Rattle.lists.specs.Places.{getD-map}
+use Rattle.columns.specs.Columns.{nodeBy, nodesFrom}
 use Rattle.columns.specs.Pack.{firstOf}
+use Rattle.columns.specs.ColumnLaws.{nodes-long, nodes-at}
 
 -- ---- tests
 
@@ -44,29 +45,12 @@ or-right false b e = e
 
 -- ---- lists
 
-pub map-set : {A B : Type 0} (f : A → B) (xs : List A) (i : ℕ) (x : A) → map f (set xs i x) ≡ set (map f xs) i (f x)
-map-set f [] i x = refl
-map-set f (y ∷ xs) zero x = refl
-map-set f (y ∷ xs) (suc i) x = ap (λ (l : List _). f y ∷ l) (map-set f xs i x)
-
 pub set-past : {A : Type 0} (xs : List A) (i : ℕ) (x : A) → length xs ≤ i → set xs i x ≡ xs
 set-past [] i x h = refl
 set-past (y ∷ xs) zero x h = absurd (omega arith)
 set-past (y ∷ xs) (suc i) x h = ap (λ (l : List _). y ∷ l) (set-past xs i x (le-of-suc-le-suc h))
 
--- ---- a slot of slots whose lists are all there
-
-pub slot-whole : (ss : List Slot) (i : ℕ) (d : Slot) → i < length ss → anyOf overSlot ss ≡ false → overSlot (getD ss i d) ≡ false
-unfolding anyOf
-slot-whole [] i d h e = absurd (omega arith)
-slot-whole (s ∷ ss) zero d h e = or-left (overSlot s) (anyOf overSlot ss) e
-slot-whole (s ∷ ss) (suc i) d h e = slot-whole ss i d (le-of-suc-le-suc h) (or-right (overSlot s) (anyOf overSlot ss) e)
-
-pub set-whole : (ss : List Slot) (i : ℕ) (s : Slot) → anyOf overSlot ss ≡ false → overSlot s ≡ false → anyOf overSlot (set ss i s) ≡ false
-unfolding anyOf
-set-whole [] i s e f = refl
-set-whole (x ∷ ss) zero s e f = ap (λ (b : Bool). b || anyOf overSlot ss) f ∙ or-right (overSlot x) (anyOf overSlot ss) e
-set-whole (x ∷ ss) (suc i) s e f = ap (λ (b : Bool). b || anyOf overSlot (set ss i s)) (or-left (overSlot x) (anyOf overSlot ss) e) ∙ set-whole ss i s (or-right (overSlot x) (anyOf overSlot ss) e) f
+-- ---- one slot
 
 -- a bare slot of a kind
 pub bare-view : (s : Slot) (k : Kind) → s .kind ≡ k → viewSlot s ≡ nodeOf k s
@@ -75,18 +59,9 @@ bare-view s k e = ap (λ (x : Kind). nodeOf x s) e
 pub bare-whole : (s : Slot) (k : Kind) → s .kind ≡ k → overSlot s ≡ overBy k s
 bare-whole s k e = ap (λ (x : Kind). overBy x s) e
 
-module _ (ss : List Slot) (size : length ss ≡ 64) (i : ℕ) where
-  nodes-long : length (map viewSlot ss) ≡ 64
-  nodes-long = length-map ss viewSlot ∙ size
-
-  pub node-past : 64 ≤ i → empty ≡ getD (map viewSlot ss) i empty
-  node-past h = sym (List·getD-eq-default (map viewSlot ss) empty (omega (arith, nodes-long)))
-
-  pub node-in : (d : Slot) → i < 64 → viewSlot (getD ss i d) ≡ getD (map viewSlot ss) i empty
-  node-in d h = sym (getD-map viewSlot ss i d empty (omega arith))
-
-  pub put-past : 64 ≤ i → (n : Node) → map viewSlot ss ≡ set (map viewSlot ss) i n
-  put-past h n = sym (set-past (map viewSlot ss) i n (omega (arith, nodes-long)))
+-- an id past the slots
+pub node-past : (ns : List Node) (i : ℕ) → length ns ≤ i → empty ≡ getD ns i empty
+node-past ns i h = sym (List·getD-eq-default ns empty h)
 
 -- ---- the empty slots, one after another
 
@@ -178,20 +153,38 @@ module _ (ns : List Node) where
         let q : emptySlots ns ≡ a ∷ b ∷ rest (b + 1) = one-more a e h ∙ ap (λ (l : List ℕ). a ∷ l) (rest-split (a + 1) b f g) in
         (sym (ap (λ (l : List ℕ). getD l 0 64) q), sym (ap (λ (l : List ℕ). getD l 1 64) q), w ∙ first-of (rest (b + 1)) ∙ sym (ap (λ (l : List ℕ). getD l 2 64) q))
 
--- ---- the same, slot by slot
+-- ---- the same, row by row
 
-module _ (ss : List Slot) (size : length ss ≡ 64) where
-  at : (i : ℕ) (d : Slot) → i < 64 → getD (map viewSlot ss) i empty ≡ viewSlot (getD ss i d)
-  at i d h = getD-map viewSlot ss i d empty (omega arith)
+empty-is : (k : ℕ) (h xs : List ℕ) (ss ms : List Float) → k ≡ 0 → isEmpty (nodeBy k h xs ss ms) ≡ true
+empty-is zero h xs ss ms e = refl
+empty-is (suc k) h xs ss ms e = absurd (omega arith)
 
-  pub passing-slot-found : (from i : ℕ) (d : Slot) → i < 64 → isEmpty (viewSlot (getD ss i d)) ≡ true → Passing (map viewSlot ss) from i → i ≡ firstOf (emptyFrom from (drop from (map viewSlot ss)))
-  passing-slot-found from i d h e w = passing-found (map viewSlot ss) from i (omega (arith, length-map ss viewSlot)) (ap isEmpty (at i d h) ∙ e) w
+empty-not : (k : ℕ) (h xs : List ℕ) (ss ms : List Float) → (k ≡ 0 → ⊥) → isEmpty (nodeBy k h xs ss ms) ≡ false
+empty-not zero h xs ss ms e = absurd (e refl)
+empty-not (suc zero) h xs ss ms e = refl
+empty-not (suc (suc zero)) h xs ss ms e = refl
+empty-not (suc (suc (suc k))) h xs ss ms e = refl
 
-  pub passing-slot-more : (from i : ℕ) (d : Slot) → i < 64 → isEmpty (viewSlot (getD ss i d)) ≡ false → Passing (map viewSlot ss) from i → Passing (map viewSlot ss) from (i + 1)
-  passing-slot-more from i d h e w = passing-more (map viewSlot ss) from i (omega (arith, length-map ss viewSlot)) (ap isEmpty (at i d h) ∙ e) w
+module _ (hs : List (List ℕ)) (size : length hs ≡ 64) (from i : ℕ) where
+  abbrev pub First : ℕ → Type 0
+  First r = (xs : List (List ℕ)) (ss ms : List (List Float)) → length xs ≡ 64 → length ss ≡ 64 → length ms ≡ 64 → r ≡ firstOf (emptyFrom from (drop from (nodesFrom hs xs ss ms)))
 
-  pub passing-slot-all : (from i : ℕ) → 64 ≤ i → Passing (map viewSlot ss) from i → 64 ≡ firstOf (emptyFrom from (drop from (map viewSlot ss)))
-  passing-slot-all from i h w = passing-all (map viewSlot ss) from i (omega (arith, length-map ss viewSlot)) w
+  -- a search of the heads that has got to i, whatever else the rows hold
+  abbrev pub Heading : ℕ → Type 0
+  Heading j = (xs : List (List ℕ)) (ss ms : List (List Float)) → length xs ≡ 64 → length ss ≡ 64 → length ms ≡ 64 → Passing (nodesFrom hs xs ss ms) from j
+
+  pub heading-found : i < 64 → getD (getD hs i []) 0 0 ≡ 0 → Heading i → First i
+  heading-found h e w xs ss ms lx ls lm =
+      passing-found (nodesFrom hs xs ss ms) from i (omega (arith, nodes-long hs xs ss ms size lx ls lm))
+      (ap isEmpty (nodes-at hs xs ss ms size lx ls lm i) ∙ empty-is (getD (getD hs i []) 0 0) (getD hs i []) (getD xs i []) (getD ss i []) (getD ms i []) e) (w xs ss ms lx ls lm)
+
+  pub heading-more : i < 64 → (getD (getD hs i []) 0 0 ≡ 0 → ⊥) → Heading i → Heading (i + 1)
+  heading-more h e w xs ss ms lx ls lm =
+      passing-more (nodesFrom hs xs ss ms) from i (omega (arith, nodes-long hs xs ss ms size lx ls lm))
+      (ap isEmpty (nodes-at hs xs ss ms size lx ls lm i) ∙ empty-not (getD (getD hs i []) 0 0) (getD hs i []) (getD xs i []) (getD ss i []) (getD ms i []) e) (w xs ss ms lx ls lm)
+
+  pub heading-all : 64 ≤ i → Heading i → First 64
+  heading-all h w xs ss ms lx ls lm = passing-all (nodesFrom hs xs ss ms) from i (omega (arith, nodes-long hs xs ss ms size lx ls lm)) (w xs ss ms lx ls lm)
 
 -- ---- lists that are all there, by kind
 

@@ -4,8 +4,9 @@ use mathlib.Core.Bool.{Bool, false}
 use mathlib.Core.Option.{Option, none, some}
 use Prim.Native.Nat.{ℕ}
 use lib.Dec.{leb}
-use lib.ListN.{length, getElem?}
-use Rattle.rules.specs.Tree.{Node, empty, pane, tabs, split}
+use lib.ListN.{length, getD, getElem?}
+use mathlib.Core.List.{List}
+use Rattle.rules.specs.Tree.{Node, empty, pane, tabs, split, emptySlots}
 use Rattle.rules.specs.Target.{PaneLocation, nowhere, inTile, inTabs, Parent}
 use Rattle.rules.specs.Insert as Insert
 use Rattle.rules.specs.Operations.{keptActive, reordered}
@@ -20,6 +21,7 @@ use Rattle.nodes.specs.declared.Holder.the-variants.{Nothing, In}
 use Rattle.nodes.specs.declared.Checked.{Checked}
 use Rattle.nodes.specs.declared.Checked.the-variants.{Good, Bad}
 use Rattle.nodes.specs.declared.Beside.{Beside}
+use Rattle.nodes.specs.declared.Spares.{Spares}
 
 abbrev pub locationOf : Location → PaneLocation
 locationOf Nowhere = nowhere
@@ -36,6 +38,12 @@ checkedOf (Bad e) = some e
 
 abbrev pub besideOf : Beside → Insert.Beside
 besideOf b = Insert.beside (b .target) (b .axis) (b .placement) (b .share)
+
+-- the lowest three of the empty slots, 64 where there is none
+pub record Spared (r : Spares) (ns : List Node) : Type 0 where
+  pub first : r .first ≡ getD (emptySlots ns) 0 64
+  pub second : r .second ≡ getD (emptySlots ns) 1 64
+  pub third : r .third ≡ getD (emptySlots ns) 2 64
 
 -- the lists of a slot have 16 places each
 pub record Rows (s : Slot) : Type 0 where

@@ -1,23 +1,24 @@
-// Finding: the Rust's find_pane and find_parent.
+// Finding: the Rust's find_pane and find_parent. A row's kind, pane and length stand in its head, so neither reads shares or minima.
 use crate::Holder;
 use crate::PaneLocation;
 use lists::Place;
 use lists::ids;
-use lists::tiles;
 use rules::model::Ids;
-use rules::model::Kind;
-use rules::model::Slot;
 use rules::model::TileId;
 ghost use mathlib.Core.Path.{_≡_};
 ghost use mathlib.Core.Bool.{false};
-ghost use mathlib.Core.List.{map};
-ghost use Prim.Native.Nat.{_≤_};
+ghost use mathlib.Core.List.{List, []};
+ghost use Prim.Native.Nat.{_≤_, _<_};
 ghost use lib.Dec.{eqb};
+ghost use lib.Ieee.{Float};
+ghost use lib.ListN.{length, getD};
 ghost use Rattle.rules.specs.Lists.{anyOf, position};
-ghost use Rattle.rules.specs.Tree.{ids as idsIn, viewSlot, overSlot, kidsOf, sameTile};
+ghost use Rattle.rules.specs.Tree.{ids as idsIn, tile, kidsOf, sameTile};
 ghost use Rattle.rules.specs.Target.{nowhere, located, isSomewhere};
 ghost use Rattle.rules.specs.Target as Rule;
 ghost use Rattle.lists.specs.Find.{placeOf};
+ghost use Rattle.columns.specs.Columns.{nodeFrom, nodesFrom};
+ghost use Rattle.columns.specs.Pack.{overHead};
 ghost use Rattle.nodes.specs.Find.{scanPane, scanParent};
 ghost use Rattle.nodes.specs.Parts.{locationOf, holderOf};
 
@@ -53,30 +54,35 @@ fn in_tabs(panes: Ids, pane: u64, group: TileId) -> PaneLocation
     }
 }
 
-// Where the pane stands in one slot.
-fn pane_in(s: Slot, pane: u64, tile: TileId) -> PaneLocation
-    requires { ⌜ overSlot s ≡ false ⌝ }
-    ensures { λ r. ⌜ locationOf r ≡ located (viewSlot s) pane tile nowhere ⌝ }
+// Where the pane stands in one row.
+fn pane_in(heads: &[[u64; 8]; 64], ids: &[[u64; 16]; 64], i: usize, pane: u64) -> PaneLocation
+    requires { ⌜ (length (now heads) ≡ 64) × (length (now ids) ≡ 64) × (i < 64) × (overHead (getD (now heads) i []) ≡ false) ⌝ }
+    ensures { λ r. ⌜ ((ss ms : List Float) → locationOf r ≡ located (nodeFrom (getD (now (heads .entry)) i []) (getD (now (ids .entry)) i []) ss ms) pane (tile i) nowhere) ⌝ }
 {
-    let k = s.kind;
-    let panes = s.panes;
-    match k {
-        Kind::Empty => PaneLocation::Nowhere,
-        Kind::Pane(own) => in_tile(pane, own, tile),
-        Kind::Tabs(_) => in_tabs(panes, pane, tile),
-        Kind::Split(_) => PaneLocation::Nowhere,
+    let h = heads[i];
+    let at = TileId { slot: i as u64 };
+    if h[0] == 1 {
+        return in_tile(pane, h[2], at);
     }
+    if h[0] == 2 {
+        let row = ids[i];
+        let panes = Ids {
+            at: row,
+            len: h[4] as usize,
+        };
+        return in_tabs(panes, pane, at);
+    }
+    PaneLocation::Nowhere
 }
 
 // find_pane
-pub fn find_pane(slots: [Slot; 64], pane: u64) -> PaneLocation
-    requires { ⌜ anyOf overSlot slots ≡ false ⌝ }
-    ensures { λ r. ⌜ locationOf r ≡ scanPane (map viewSlot slots) pane ⌝ }
+pub fn find_pane(heads: &[[u64; 8]; 64], ids: &[[u64; 16]; 64], pane: u64) -> PaneLocation
+    requires { ⌜ (length (now heads) ≡ 64) × (length (now ids) ≡ 64) × (anyOf overHead (now heads) ≡ false) ⌝ }
+    ensures { λ r. ⌜ ((ss ms : List (List Float)) → length ss ≡ 64 → length ms ≡ 64 → locationOf r ≡ scanPane (nodesFrom (now (heads .entry)) (now (ids .entry)) ss ms) pane) ⌝ }
 {
     let mut i = 0usize;
     while i < 64 {
-        let s = slots[i];
-        let l = pane_in(s, pane, TileId { slot: i as u64 });
+        let l = pane_in(heads, ids, i, pane);
         if is_somewhere(l) {
             return l;
         }
@@ -85,30 +91,31 @@ pub fn find_pane(slots: [Slot; 64], pane: u64) -> PaneLocation
     PaneLocation::Nowhere
 }
 
-// The place of a tile among the children of one slot.
-fn place_in(s: Slot, target: TileId) -> Place
-    requires { ⌜ overSlot s ≡ false ⌝ }
-    ensures { λ r. ⌜ placeOf r ≡ position (sameTile target) (kidsOf (viewSlot s)) ⌝ }
+// The place of a tile among the children of one row.
+fn place_in(heads: &[[u64; 8]; 64], ids: &[[u64; 16]; 64], i: usize, target: u64) -> Place
+    requires { ⌜ (length (now heads) ≡ 64) × (length (now ids) ≡ 64) × (i < 64) × (overHead (getD (now heads) i []) ≡ false) ⌝ }
+    ensures { λ r. ⌜ ((ss ms : List Float) → placeOf r ≡ position (sameTile (tile target)) (kidsOf (nodeFrom (getD (now (heads .entry)) i []) (getD (now (ids .entry)) i []) ss ms))) ⌝ }
 {
-    let k = s.kind;
-    let children = s.children;
-    match k {
-        Kind::Empty => Place::Nothing,
-        Kind::Pane(_) => Place::Nothing,
-        Kind::Tabs(_) => Place::Nothing,
-        Kind::Split(_) => tiles::position(children, target),
+    let h = heads[i];
+    if 2 < h[0] {
+        let row = ids[i];
+        let children = Ids {
+            at: row,
+            len: h[4] as usize,
+        };
+        return ids::position(children, target);
     }
+    Place::Nothing
 }
 
 // find_parent
-pub fn find_parent(slots: [Slot; 64], target: TileId) -> Holder
-    requires { ⌜ anyOf overSlot slots ≡ false ⌝ }
-    ensures { λ r. ⌜ holderOf r ≡ scanParent (map viewSlot slots) target ⌝ }
+pub fn find_parent(heads: &[[u64; 8]; 64], ids: &[[u64; 16]; 64], target: TileId) -> Holder
+    requires { ⌜ (length (now heads) ≡ 64) × (length (now ids) ≡ 64) × (anyOf overHead (now heads) ≡ false) ⌝ }
+    ensures { λ r. ⌜ ((ss ms : List (List Float)) → length ss ≡ 64 → length ms ≡ 64 → holderOf r ≡ scanParent (nodesFrom (now (heads .entry)) (now (ids .entry)) ss ms) target) ⌝ }
 {
     let mut i = 0usize;
     while i < 64 {
-        let s = slots[i];
-        let place = place_in(s, target);
+        let place = place_in(heads, ids, i, target.slot);
         if let Place::At(index) = place {
             return Holder::In {
                 split: TileId { slot: i as u64 },

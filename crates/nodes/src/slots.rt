@@ -1,6 +1,7 @@
 // Slots read, written, taken and made: the Rust's get_node, set_node and push_node.
 use crate::Spares;
 use columns::pack;
+use columns::unpack;
 use lists::ids;
 use lists::reals;
 use lists::tiles;
@@ -12,53 +13,63 @@ use rules::model::TileId;
 use rules::model::Tiles;
 ghost use mathlib.Core.Path.{_≡_};
 ghost use mathlib.Core.Bool.{false};
-ghost use mathlib.Core.List.{[], _∷_, map};
-ghost use Prim.Native.Nat.{_≤_};
-ghost use lib.ListN.{getD, drop};
-ghost use Rattle.rules.specs.Lists.{anyOf};
-ghost use Rattle.rules.specs.Tree.{Node, viewSlot, overSlot, nodeAt, setNode, emptyFrom, emptySlots};
+ghost use mathlib.Core.List.{List, [], _∷_};
+ghost use Prim.Native.Nat.{ℕ, _≤_};
+ghost use lib.Ieee.{Float};
+ghost use lib.ListN.{length, drop};
+ghost use Rattle.rules.specs.Tree.{Node, viewSlot, overSlot, nodeAt, setNode, emptyFrom};
 ghost use Rattle.rules.specs.declared.model.TabBarPlacement.the-variants as Bars;
 ghost use Rattle.lists.specs.Exact.{IsTiles, IsReals};
-ghost use Rattle.columns.specs.Pack.{firstOf};
-ghost use Rattle.nodes.specs.Parts.{Rows};
+ghost use Rattle.columns.specs.Columns.{nodesFrom};
+ghost use Rattle.columns.specs.Pack.{Even, firstOf};
+ghost use Rattle.nodes.specs.Parts.{Rows, Spared};
 
 // get_node, and the one place that resolves a tile id: one past the slots reads as empty.
-pub fn get_node(slots: [Slot; 64], id: TileId) -> Slot
-    requires { ⌜ anyOf overSlot slots ≡ false ⌝ }
-    ensures { λ r. ⌜ (viewSlot r ≡ nodeAt (map viewSlot slots) id) × (overSlot r ≡ false) ⌝ }
+pub fn get_node(
+    heads: &[[u64; 8]; 64],
+    ids: &[[u64; 16]; 64],
+    shares: &[[f64; 16]; 64],
+    minima: &[[f64; 16]; 64],
+    id: TileId,
+) -> Slot
+    requires { ⌜ Even (now heads) (now ids) (now shares) (now minima) ⌝ }
+    ensures { λ r. ⌜ (viewSlot r ≡ nodeAt (nodesFrom (now (heads .entry)) (now (ids .entry)) (now (shares .entry)) (now (minima .entry))) id) × (overSlot r ≡ false) ⌝ }
 {
     let i = id.slot;
     if 64 <= i {
         return pack::bare_slot(Kind::Empty);
     }
-    let j = i as usize;
-    slots[j]
+    pack::get(heads, ids, shares, minima, i as usize)
 }
 
 // set_node
-pub fn set_node(slots: [Slot; 64], id: TileId, s: Slot) -> [Slot; 64]
-    requires { ⌜ (anyOf overSlot slots ≡ false) × (overSlot s ≡ false) ⌝ }
-    ensures { λ r. ⌜ (map viewSlot r ≡ setNode id (viewSlot s) (map viewSlot slots)) × (anyOf overSlot r ≡ false) ⌝ }
+pub fn set_node(
+    heads: &mut [[u64; 8]; 64],
+    ids: &mut [[u64; 16]; 64],
+    shares: &mut [[f64; 16]; 64],
+    minima: &mut [[f64; 16]; 64],
+    id: TileId,
+    s: Slot,
+)
+    requires { ⌜ Even (now heads) (now ids) (now shares) (now minima) × (overSlot s ≡ false) ⌝ }
+    ensures { λ r. ⌜ (nodesFrom (now (heads .exit)) (now (ids .exit)) (now (shares .exit)) (now (minima .exit)) ≡ setNode id (viewSlot s) (nodesFrom (now (heads .entry)) (now (ids .entry)) (now (shares .entry)) (now (minima .entry)))) × Even (now (heads .exit)) (now (ids .exit)) (now (shares .exit)) (now (minima .exit)) ⌝ }
 {
     let i = id.slot;
     if 64 <= i {
-        return slots;
+        return;
     }
-    let j = i as usize;
-    let mut a = slots;
-    a[j] = s;
-    a
+    unpack::put(heads, ids, shares, minima, i as usize, s);
 }
 
 // The lowest empty slot from one on, 64 where there is none.
-fn next_empty(slots: [Slot; 64], from: u64) -> u64
-    requires { ⌜ from ≤ 64 ⌝ }
-    ensures { λ r. ⌜ r ≡ firstOf (emptyFrom from (drop from (map viewSlot slots))) ⌝ }
+fn next_empty(heads: &[[u64; 8]; 64], from: u64) -> u64
+    requires { ⌜ (length (now heads) ≡ 64) × (from ≤ 64) ⌝ }
+    ensures { λ r. ⌜ ((xs : List (List ℕ)) (ss ms : List (List Float)) → length xs ≡ 64 → length ss ≡ 64 → length ms ≡ 64 → r ≡ firstOf (emptyFrom from (drop from (nodesFrom (now (heads .entry)) xs ss ms)))) ⌝ }
 {
     let mut i = from as usize;
     while i < 64 {
-        let s = slots[i];
-        if columns::slots::is_empty(s) {
+        let h = heads[i];
+        if h[0] == 0 {
             return i as u64;
         }
         i += 1;
@@ -67,11 +78,11 @@ fn next_empty(slots: [Slot; 64], from: u64) -> u64
 }
 
 // The slots that new tiles take, in order of making.
-pub fn spares(slots: [Slot; 64]) -> Spares
-    ensures { λ r. ⌜ (r .first ≡ getD (emptySlots (map viewSlot slots)) 0 64) × (r .second ≡ getD (emptySlots (map viewSlot slots)) 1 64) × (r .third ≡ getD (emptySlots (map viewSlot slots)) 2 64) ⌝ }
+pub fn spares(heads: &[[u64; 8]; 64]) -> Spares
+    requires { ⌜ length (now heads) ≡ 64 ⌝ }
+    ensures { λ r. ⌜ ((xs : List (List ℕ)) (ss ms : List (List Float)) → length xs ≡ 64 → length ss ≡ 64 → length ms ≡ 64 → Spared r (nodesFrom (now (heads .entry)) xs ss ms)) ⌝ }
 {
-    columns::slots::sized(slots);
-    let first = next_empty(slots, 0);
+    let first = next_empty(heads, 0);
     if 64 <= first {
         return Spares {
             first: 64,
@@ -79,7 +90,7 @@ pub fn spares(slots: [Slot; 64]) -> Spares
             third: 64,
         };
     }
-    let second = next_empty(slots, first + 1);
+    let second = next_empty(heads, first + 1);
     if 64 <= second {
         return Spares {
             first,
@@ -87,7 +98,7 @@ pub fn spares(slots: [Slot; 64]) -> Spares
             third: 64,
         };
     }
-    let third = next_empty(slots, second + 1);
+    let third = next_empty(heads, second + 1);
     Spares {
         first,
         second,

@@ -7,12 +7,12 @@ use rules::model::Kind;
 use rules::model::Slot;
 ghost use mathlib.Core.Path.{_≡_};
 ghost use mathlib.Core.Bool.{false};
-ghost use mathlib.Core.List.{map};
 ghost use Prim.Native.Nat.{_<_};
 ghost use lib.ListN.{length};
-ghost use Rattle.rules.specs.Lists.{anyOf};
 ghost use Rattle.rules.specs.Tree.{viewSlot, overSlot, panesOf};
 ghost use Rattle.rules.specs.Insert.{activeAfter, removedFrom, removePane};
+ghost use Rattle.columns.specs.Columns.{nodesFrom};
+ghost use Rattle.columns.specs.Pack.{Even};
 ghost use Rattle.nodes.specs.Parts.{locationOf};
 ghost use Rattle.nodes.specs.Find.{Stands};
 
@@ -57,20 +57,26 @@ fn removed_from(s: Slot, index: usize) -> Slot
 }
 
 // remove_pane, where the pane stands: a pane tile's slot is cleared, and its place in a split stays until repair.
-pub fn remove_pane(slots: [Slot; 64], l: PaneLocation) -> [Slot; 64]
-    requires { ⌜ (anyOf overSlot slots ≡ false) × Stands (map viewSlot slots) (locationOf l) ⌝ }
-    ensures { λ r. ⌜ (map viewSlot r ≡ removePane (locationOf l) (map viewSlot slots)) × (anyOf overSlot r ≡ false) ⌝ }
+pub fn remove_pane(
+    heads: &mut [[u64; 8]; 64],
+    ids: &mut [[u64; 16]; 64],
+    shares: &mut [[f64; 16]; 64],
+    minima: &mut [[f64; 16]; 64],
+    l: PaneLocation,
+)
+    requires { ⌜ Even (now heads) (now ids) (now shares) (now minima) × Stands (nodesFrom (now heads) (now ids) (now shares) (now minima)) (locationOf l) ⌝ }
+    ensures { λ r. ⌜ (nodesFrom (now (heads .exit)) (now (ids .exit)) (now (shares .exit)) (now (minima .exit)) ≡ removePane (locationOf l) (nodesFrom (now (heads .entry)) (now (ids .entry)) (now (shares .entry)) (now (minima .entry)))) × Even (now (heads .exit)) (now (ids .exit)) (now (shares .exit)) (now (minima .exit)) ⌝ }
 {
     match l {
-        PaneLocation::Nowhere => slots,
+        PaneLocation::Nowhere => {}
         PaneLocation::Tile { tile } => {
             let none = pack::bare_slot(Kind::Empty);
-            slots::set_node(slots, tile, none)
+            slots::set_node(heads, ids, shares, minima, tile, none);
         }
         PaneLocation::InTabs { group, index } => {
-            let s = slots::get_node(slots, group);
+            let s = slots::get_node(heads, ids, shares, minima, group);
             let left = removed_from(s, index);
-            slots::set_node(slots, group, left)
+            slots::set_node(heads, ids, shares, minima, group, left);
         }
     }
 }

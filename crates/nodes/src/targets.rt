@@ -7,11 +7,10 @@ use rules::operation::DockTarget;
 use rules::refusal::Refusal;
 use util::shares;
 ghost use mathlib.Core.Path.{_≡_};
-ghost use mathlib.Core.Bool.{false};
-ghost use mathlib.Core.List.{map};
-ghost use Rattle.rules.specs.Lists.{anyOf};
-ghost use Rattle.rules.specs.Tree.{viewSlot, overSlot};
+ghost use Rattle.rules.specs.Tree.{viewSlot};
 ghost use Rattle.rules.specs.Target.{existing, aGroup, validateTarget};
+ghost use Rattle.columns.specs.Columns.{nodesFrom};
+ghost use Rattle.columns.specs.Pack.{Even};
 ghost use Rattle.nodes.specs.Parts.{checkedOf};
 
 // A tile beside which something goes.
@@ -38,9 +37,15 @@ fn is_group(s: Slot) -> Checked
 }
 
 // validate_target: the ratio before the tile.
-pub fn validate_target(slots: [Slot; 64], target: DockTarget) -> Checked
-    requires { ⌜ anyOf overSlot slots ≡ false ⌝ }
-    ensures { λ r. ⌜ checkedOf r ≡ validateTarget (map viewSlot slots) target ⌝ }
+pub fn validate_target(
+    heads: &[[u64; 8]; 64],
+    ids: &[[u64; 16]; 64],
+    shares: &[[f64; 16]; 64],
+    minima: &[[f64; 16]; 64],
+    target: DockTarget,
+) -> Checked
+    requires { ⌜ Even (now heads) (now ids) (now shares) (now minima) ⌝ }
+    ensures { λ r. ⌜ checkedOf r ≡ validateTarget (nodesFrom (now (heads .entry)) (now (ids .entry)) (now (shares .entry)) (now (minima .entry))) target ⌝ }
 {
     match target {
         DockTarget::Root => Checked::Good,
@@ -51,13 +56,13 @@ pub fn validate_target(slots: [Slot; 64], target: DockTarget) -> Checked
             ratio,
         } => {
             if shares::is_valid_split_fraction(ratio) {
-                let s = slots::get_node(slots, tile);
+                let s = slots::get_node(heads, ids, shares, minima, tile);
                 return is_there(s);
             }
             Checked::Bad(Refusal::InvalidTarget)
         }
         DockTarget::TabInto { group, index: _ } => {
-            let s = slots::get_node(slots, group);
+            let s = slots::get_node(heads, ids, shares, minima, group);
             is_group(s)
         }
     }

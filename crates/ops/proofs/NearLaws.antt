@@ -1,40 +1,39 @@
 -- Laws of a tile put beside another: each way of the code gives what the rule comes to. Assumes nothing.
 use mathlib.Core.Path.{_≡_, refl, sym, ap, subst, _∙_}
 use mathlib.Core.Bool.{Bool, true, false, _||_}
-use mathlib.Core.List.{List, [], _∷_, map}
+use mathlib.Core.List.{List, [], _∷_}
 use mathlib.Core.Option.{Option, none, some}
 use Prim.Native.Nat.{ℕ, zero, suc, _≤_, _<_}
 use native.Mathlib.Omega.{arith}
-use borrow.Author.Tests.{lt-ltb}
+use borrow.Author.Tests.{lt-ltb, eq-eqb, ne-eqb}
 use lib.Dec.{ltb}
-use lib.ListN.{length, getD, set, drop, length-map, length-take}
+use lib.ListN.{length, getD, drop, length-take}
 use lib.Seq.{getD-set-other}
 use lib.Ieee.{Float}
 use Rattle.rules.specs.Numbers.{zero-f}
 use Rattle.rules.specs.Lists.{insertAt}
-use Rattle.rules.specs.Tree.{Node, empty, split, tile, tiles, reals, view, viewSlot, nodeOf, overSlot, nodeAt, setNode, isEmpty, kidsOf, emptySlots, wideNode, sameTile}
+use Rattle.rules.specs.Tree.{Node, Arena, empty, split, tile, tiles, reals, viewSlot, nodeOf, overSlot, nodeAt, setNode, isEmpty, kidsOf, emptySlots, wideNode, sameTile}
 use Rattle.rules.specs.Shares.{repairedShares}
 use Rattle.rules.specs.Minima.{alignedConstraints, compactConstraints}
 use Rattle.rules.specs.Target.{Parent, findParent}
 use Rattle.rules.specs.Insert.{draft, insertIndex, dividedShares, insertedIn, newSplit, replacedIn}
 use Rattle.rules.specs.Insert as Insert
-use Rattle.rules.specs.Operations.{Step, change, taken, putNear}
+use Rattle.rules.specs.Operations.{Step, change, taken, putNear, refused, finish}
 use Rattle.rules.specs.declared.model.TileId.{TileId}
 use Rattle.rules.specs.declared.model.Axis.{Axis}
 use Rattle.rules.specs.declared.model.Kind.{Kind}
 use Rattle.rules.specs.declared.model.Kind.the-variants.{Empty, Pane, Tabs, Split}
 use Rattle.rules.specs.declared.model.Slot.{Slot}
-use Rattle.rules.specs.declared.model.TileTree.{TileTree}
 use Rattle.rules.specs.declared.refusal.Refusal.the-variants.{ArenaFull, TooWide, InvalidTileId, InvalidOperation}
 use Rattle.lists.specs.Places.{length-insertAt}
 use Rattle.nodes.specs.Find.{scanParent, scan-holds}
-use Rattle.ops.specs.Near.{alike-kids, taken-empty, like-first, setFirst, setBoth, near-absent, near-loose, near-in, near-root, near-under}
+use Rattle.ops.specs.Near.{alike-kids, alike-scan, alike-same, taken-empty, like-first, setFirst, setBoth, near-absent, near-loose, near-in, near-root, near-under}
 use Rattle.nodes.specs.Parts.{besideOf, Rows}
-use Rattle.ops.specs.Steps.{Fits, Nears, Does, Refuses, Changes, parentAt, Within, Rooted, Under}
+use Rattle.ops.specs.Steps.{Fits, Nears, Makes, parentAt, Within, Rooted, Under}
 use Rattle.nodes.specs.declared.Beside.{Beside}
-use Rattle.ops.specs.declared.Applying.{Applying}
+use Rattle.nodes.specs.declared.Spares.{Spares}
 use Rattle.nodes.proofs.SlotLaws.{bare-view, split-few}
-use Rattle.ops.proofs.FinishLaws.{does-refused, does-like, does-full, does-wide, has-room, free-inside, spare-is, wide-set}
+use Rattle.ops.proofs.FinishLaws.{step-full, step-wide, step-goes, has-room, free-inside, spare-is, wide-set}
 
 -- ---- what has children is a split, in a slot
 
@@ -78,142 +77,140 @@ grown-wide s i b new R h w =
     many : ltb 16 (length (insertAt p new cs)) ≡ true
     many = lt-ltb 16 (length (insertAt p new cs)) (omega (arith, length-insertAt p new cs, length-take (s .children .len) (s .children .at), R .children))
 
-module _ (t : TileTree) (out : List Slot) (new : Slot) (b : Beside) where
+module _ (root : ℕ) (room : Spares) (ms : List Node) (new : Node) (b : Beside) (a : Arena) where
   abbrev ns : List Node
-  ns = map viewSlot (t .slots)
-
-  abbrev ms : List Node
-  ms = map viewSlot out
+  ns = a .nodes
 
   abbrev free : List ℕ
   free = emptySlots ns
 
   abbrev step : Step
-  step = putNear (view t) (viewSlot new) (besideOf b) (draft (t .root) ms)
+  step = putNear a new (besideOf b) (draft (a .root) ms)
 
-  module _ (F : Fits t out new) where
+  module _ (F : Fits root room ms new a) where
     pub long : length ns ≡ 64
-    long = length-map (t .slots) viewSlot ∙ F .fit .size
+    long = F .taken .fit .size
 
-    parent-is : findParent (t .root) ns (b .target) ≡ scanParent ns (b .target)
-    parent-is = F .fit .parents (b .target)
+    parent-is : findParent (a .root) ns (b .target) ≡ scanParent ns (b .target)
+    parent-is = F .taken .fit .parents (b .target)
 
-    pub put-absent : (r : Applying) → isEmpty (nodeAt ms (b .target)) ≡ true → Refuses t InvalidTileId r → Does t step r
-    put-absent r e R = does-refused t step InvalidTileId r R (near-absent (view t) long ms (F .alike) (viewSlot new) (F .leaf) (besideOf b) (scanParent ns (b .target)) parent-is e)
+    pub put-absent : isEmpty (nodeAt ms (b .target)) ≡ true → finish a step ≡ refused InvalidTileId a
+    put-absent e = ap (finish a) (near-absent a long ms (F .taken .alike) new (F .leaf) (besideOf b) (scanParent ns (b .target)) parent-is e)
 
-  module _ (p : Option Parent) (N : Nears t out new b p) where
-    abbrev F : Fits t out new
+    -- the parent that is found in the slots as they are is the arena's
+    pub put-nears : (p : Option Parent) → isEmpty (nodeAt ms (b .target)) ≡ false → p ≡ scanParent ms (b .target) → Nears root room ms new b p a
+    put-nears p e h =
+        record { fits = F; there = e; holder = h ∙ alike-scan ns ms (F .taken .alike) (F .taken .long ∙ sym long) (b .target) }
+
+    pub put-axis : (x : Axis) (p : Option Parent) (r : Bool) → r ≡ Insert.sameAxisParent x p ms → r ≡ Insert.sameAxisParent x p ns
+    put-axis x p r e = e ∙ alike-same ns ms (F .taken .alike) x p
+
+  module _ (p : Option Parent) (N : Nears root room ms new b p a) where
+    abbrev F : Fits root room ms new a
     F = N .fits
 
     pub size : length ns ≡ 64
     size = long F
 
-    pub found : findParent (t .root) ns (b .target) ≡ p
+    pub found : findParent (a .root) ns (b .target) ≡ p
     found = parent-is F ∙ sym (N .holder)
 
     -- the slots with the new tile set
     abbrev withNew : List Node
-    withNew = setFirst (view t) size ms (F .alike) (viewSlot new) (F .leaf) (besideOf b) p found
+    withNew = setFirst a size ms (F .taken .alike) new (F .leaf) (besideOf b) p found
 
-    new-is : (e0 : ℕ) → e0 ≡ getD free 0 64 → (made : List Slot) → map viewSlot made ≡ setNode (tile e0) (viewSlot new) ms → map viewSlot made ≡ withNew
-    new-is e0 q made m = m ∙ ap (λ (k : ℕ). setNode (tile k) (viewSlot new) ms) q
+    new-is : (made : List Node) → made ≡ setNode (tile (room .first)) new ms → made ≡ withNew
+    new-is made m = m ∙ ap (λ (k : ℕ). setNode (tile k) new ms) (F .taken .spared .first)
 
-    pub put-loose : (r : Applying) → sameTile (b .target) (t .root) ≡ false → p ≡ none → Refuses t InvalidOperation r → Does t step r
-    put-loose r e q R = does-refused t step InvalidOperation r R (near-loose (view t) size ms (F .alike) (viewSlot new) (F .leaf) (besideOf b) p found (N .there) e q)
+    root-is : (k : ℕ) → k ≡ root → sameTile (tile k) (a .root) ≡ true
+    root-is k e = eq-eqb k (a .root .slot) (e ∙ sym (F .taken .under))
+
+    root-not : (k : ℕ) → (k ≡ root → ⊥) → sameTile (tile k) (a .root) ≡ false
+    root-not k n = ne-eqb k (a .root .slot) (λ e. n (e ∙ F .taken .under))
+
+    pub put-loose : (b .target .slot ≡ root → ⊥) → p ≡ none → finish a step ≡ refused InvalidOperation a
+    put-loose e q = ap (finish a) (near-loose a size ms (F .taken .alike) new (F .leaf) (besideOf b) p found (N .there) (root-not (b .target .slot) e) q)
+
+    pub put-rooted : Insert.sameAxisParent (b .axis) p ns ≡ false → b .target .slot ≡ root → Rooted room ms new b a
+    put-rooted s e = (root, p, N, root-is (b .target .slot) e, s)
+
+    pub put-unders : (s : TileId) (i : ℕ) → p ≡ some (parentAt s i) → Insert.sameAxisParent (b .axis) p ns ≡ false → (b .target .slot ≡ root → ⊥) → Under root room ms new b s i a
+    put-unders s i q e n =
+        (subst (λ (o : Option Parent). Nears root room ms new b o a) q N, root-not (b .target .slot) n, sym (ap (λ (o : Option Parent). Insert.sameAxisParent (b .axis) o ns) q) ∙ e)
+
+    pub put-within : (s : TileId) (i : ℕ) → p ≡ some (parentAt s i) → Insert.sameAxisParent (b .axis) p ns ≡ true → Within root room ms new b s i a
+    put-within s i q e = (subst (λ (o : Option Parent). Nears root room ms new b o a) q N, sym (ap (λ (o : Option Parent). Insert.sameAxisParent (b .axis) o ns) q) ∙ e)
 
   -- ---- in a parent of the same axis
 
-  module _ (sp : TileId) (i : ℕ) (W : Within t out new b sp i) where
+  module _ (sp : TileId) (i : ℕ) (W : Within root room ms new b sp i a) where
     abbrev q : Option Parent
     q = some (parentAt sp i)
 
-    abbrev N : Nears t out new b q
+    abbrev N : Nears root room ms new b q a
     N = W .0
 
     abbrev grown : List Node
-    grown = setNode sp (insertedIn (besideOf b) (taken 0 (view t)) i (nodeAt (withNew q N) sp)) (withNew q N)
+    grown = setNode sp (insertedIn (besideOf b) (taken 0 a) i (nodeAt (withNew q N) sp)) (withNew q N)
 
-    in-is : step ≡ change (draft (t .root) grown) 1 (drop 1 free)
-    in-is = near-in (view t) (size q N) ms (N .fits .alike) (viewSlot new) (N .fits .leaf) (besideOf b) q (found q N) (N .there) (parentAt sp i) refl (W .1)
+    in-is : step ≡ change (draft (a .root) grown) 1 (drop 1 free)
+    in-is = near-in a (size q N) ms (N .fits .taken .alike) new (N .fits .leaf) (besideOf b) q (found q N) (N .there) (parentAt sp i) refl (W .1)
 
-    pub put-in-full : (r : Applying) (e0 : ℕ) → e0 ≡ getD free 0 64 → 64 ≤ e0 → Refuses t ArenaFull r → Does t step r
-    put-in-full r e0 e h R = does-like t step _ r (does-full t (size q N) (draft (t .root) grown) 0 (drop 1 free) r (omega arith) R) in-is
+    pub put-in-full : 64 ≤ room .first → finish a step ≡ refused ArenaFull a
+    put-in-full h = step-full a (size q N) step (draft (a .root) grown) 0 (room .first) (drop 1 free) in-is (N .fits .taken .spared .first) h
 
-    module _ (e0 : ℕ) (e : e0 ≡ getD free 0 64) (h : e0 < 64) (made : List Slot) (m : map viewSlot made ≡ setNode (tile e0) (viewSlot new) ms) (s : Slot) (o : viewSlot s ≡ nodeAt (map viewSlot made) sp) where
+    module _ (made : List Node) (m : made ≡ setNode (tile (room .first)) new ms) (s : Slot) (o : viewSlot s ≡ nodeAt made sp) where
       same : viewSlot s ≡ nodeAt (withNew q N) sp
-      same = o ∙ ap (λ (l : List Node). nodeAt l sp) (new-is q N e0 e made m)
+      same = o ∙ ap (λ (l : List Node). nodeAt l sp) (new-is q N made m)
 
       placed : i < length (kidsOf (nodeAt (withNew q N) sp))
       placed =
           subst (λ (l : List TileId). i < length l)
-          (sym (alike-kids ns (withNew q N) (like-first (view t) (size q N) ms (N .fits .alike) (viewSlot new) (N .fits .leaf) (besideOf b) q (found q N)) (sp .slot)))
+          (sym (alike-kids ns (withNew q N) (like-first a (size q N) ms (N .fits .taken .alike) new (N .fits .leaf) (besideOf b) q (found q N)) (sp .slot)))
           (scan-holds ns (b .target) (parentAt sp i) (sym (N .holder)))
 
       pub put-in-place : i < length (kidsOf (viewSlot s))
       put-in-place = subst (λ (n : Node). i < length (kidsOf n)) (sym same) placed
 
-      room : ltb (length free) 1 ≡ false
-      room = has-room t (size q N) 0 (omega arith)
+      module _ (h : room .first < 64) where
+        pub put-in-wide : Rows s → 16 ≤ s .children .len → finish a step ≡ refused TooWide a
+        put-in-wide R w =
+            step-wide a (size q N) step (draft (a .root) grown) 1 (drop 1 free) in-is (has-room a (size q N) 0 (room .first) (N .fits .taken .spared .first) h)
+            (wide-set (withNew q N) (sp .slot) (insertedIn (besideOf b) (taken 0 a) i (nodeAt (withNew q N) sp)) (inside (withNew q N) (sp .slot) i placed)
+            (ap (λ (n : Node). wideNode (insertedIn (besideOf b) (taken 0 a) i n)) (sym same) ∙ grown-wide s i (besideOf b) (taken 0 a) R put-in-place w))
 
-      pub put-in-wide : (r : Applying) → Rows s → 16 ≤ s .children .len → Refuses t TooWide r → Does t step r
-      put-in-wide r R w X =
-          does-like t step _ r
-          (does-wide t (size q N) (draft (t .root) grown) 1 (drop 1 free) r room
-          (wide-set (withNew q N) (sp .slot) (insertedIn (besideOf b) (taken 0 (view t)) i (nodeAt (withNew q N) sp)) (inside (withNew q N) (sp .slot) i placed)
-          (ap (λ (n : Node). wideNode (insertedIn (besideOf b) (taken 0 (view t)) i n)) (sym same) ∙ grown-wide s i (besideOf b) (taken 0 (view t)) R put-in-place w)) X)
-          in-is
-
-      pub put-in-goes : (r : Applying) (n : Slot) (done : List Slot) (e1 : ℕ) → viewSlot n ≡ insertedIn (besideOf b) (tile e0) i (viewSlot s) → map viewSlot done ≡ setNode sp (viewSlot n) (map viewSlot made)
-          → e1 ≡ getD free 1 64 → Changes t (t .root) (map viewSlot done) e1 r → Does t step r
-      put-in-goes r n done e1 x y z C =
-          does-like t step _ r
-          (C (record { made = draft (t .root) grown; needed = 1; free = drop 1 free })
-          (ap (draft (t .root)) (sym (y ∙ (λ j. setNode sp ((x ∙ (λ k. insertedIn (besideOf b) (tile (e k)) i (same k))) j) (new-is q N e0 e made m j)))))
-          room (free-inside t (size q N) 1) (z ∙ spare-is t (size q N) 1))
-          in-is
+        pub put-in-goes : (n : Node) (done : List Node) → n ≡ insertedIn (besideOf b) (tile (room .first)) i (viewSlot s) → done ≡ setNode sp n made → Makes a step root (room .second) done
+        put-in-goes n done x y =
+            step-goes a (size q N) step (draft (a .root) grown) 1 (drop 1 free) root (room .second) done in-is
+            (λ j. draft (tile (N .fits .taken .under j)) (sym (y ∙ (λ j. setNode sp ((x ∙ (λ k. insertedIn (besideOf b) (tile (N .fits .taken .spared .first k)) i (same k))) j) (new-is q N made m j))) j))
+            (has-room a (size q N) 0 (room .first) (N .fits .taken .spared .first) h) (free-inside a (size q N) 1) (N .fits .taken .spared .second ∙ spare-is a (size q N) 1)
 
   -- ---- a new split of the two
 
-  module _ (p : Option Parent) (N : Nears t out new b p) where
+  module _ (p : Option Parent) (N : Nears root room ms new b p a) where
     abbrev withBoth : List Node
-    withBoth = setBoth (view t) (size p N) ms (N .fits .alike) (viewSlot new) (N .fits .leaf) (besideOf b) p (found p N) (N .there)
+    withBoth = setBoth a (size p N) ms (N .fits .taken .alike) new (N .fits .leaf) (besideOf b) p (found p N) (N .there)
 
-    pub both-is : (e0 e1 : ℕ) → e0 ≡ getD free 0 64 → e1 ≡ getD free 1 64 → (made : List Slot) → map viewSlot made ≡ setNode (tile e0) (viewSlot new) ms
-        → (n : Slot) → viewSlot n ≡ newSplit (besideOf b) (tile e0) (b .placement) → (done : List Slot) → map viewSlot done ≡ setNode (tile e1) (viewSlot n) (map viewSlot made) → map viewSlot done ≡ withBoth
-    both-is e0 e1 f g made m n x done y = y ∙ (λ z. setNode (tile (g z)) ((x ∙ ap (λ (k : ℕ). newSplit (besideOf b) (tile k) (b .placement)) f) z) (new-is p N e0 f made m z))
+    both-is : (made : List Node) → made ≡ setNode (tile (room .first)) new ms → (n : Node) → n ≡ newSplit (besideOf b) (tile (room .first)) (b .placement)
+        → (done : List Node) → done ≡ setNode (tile (room .second)) n made → done ≡ withBoth
+    both-is made m n x done y =
+        y ∙ (λ z. setNode (tile (N .fits .taken .spared .second z)) ((x ∙ ap (λ (k : ℕ). newSplit (besideOf b) (tile k) (b .placement)) (N .fits .taken .spared .first)) z) (new-is p N made m z))
 
-  module _ (W : Rooted t out new b) where
-    over-is : step ≡ change (draft (taken 1 (view t)) (withBoth (W .0) (W .1))) 2 (drop 2 free)
-    over-is =
-        let (p, N, e, s) = W in near-root (view t) (size p N) ms (N .fits .alike) (viewSlot new) (N .fits .leaf) (besideOf b) p (found p N) (N .there) e s
-
-    pub put-over-full : (r : Applying) (e1 : ℕ) → e1 ≡ getD free 1 64 → 64 ≤ e1 → Refuses t ArenaFull r → Does t step r
-    put-over-full r e1 e h R = does-like t step _ r (does-full t (size (W .0) (W .1)) (draft (taken 1 (view t)) (withBoth (W .0) (W .1))) 1 (drop 2 free) r (omega arith) R) over-is
-
-    pub put-over-goes : (r : Applying) (e0 e1 e2 : ℕ) → e0 ≡ getD free 0 64 → (g : e1 ≡ getD free 1 64) → e1 < 64 → e2 ≡ getD free 2 64 → (done : List Slot) → map viewSlot done ≡ withBoth (W .0) (W .1)
-        → Changes t (tile e1) (map viewSlot done) e2 r → Does t step r
-    put-over-goes r e0 e1 e2 f g h z done y C =
-        does-like t step _ r
-        (C (record { made = draft (taken 1 (view t)) (withBoth (W .0) (W .1)); needed = 2; free = drop 2 free })
-        (λ j. draft (tile (sym g j)) (sym y j))
-        (has-room t (size (W .0) (W .1)) 1 (omega arith)) (free-inside t (size (W .0) (W .1)) 2) (z ∙ spare-is t (size (W .0) (W .1)) 2))
-        over-is
-
-  module _ (sp : TileId) (i : ℕ) (W : Under t out new b sp i) where
+  module _ (sp : TileId) (i : ℕ) (W : Under root room ms new b sp i a) where
     abbrev hq : Option Parent
     hq = some (parentAt sp i)
 
-    abbrev M : Nears t out new b hq
+    abbrev M : Nears root room ms new b hq a
     M = W .0
 
     abbrev swapped : List Node
-    swapped = setNode sp (replacedIn (taken 1 (view t)) i (nodeAt (withBoth hq M) sp)) (withBoth hq M)
+    swapped = setNode sp (replacedIn (taken 1 a) i (nodeAt (withBoth hq M) sp)) (withBoth hq M)
 
-    under-is : step ≡ change (draft (t .root) swapped) 2 (drop 2 free)
-    under-is = near-under (view t) (size hq M) ms (M .fits .alike) (viewSlot new) (M .fits .leaf) (besideOf b) hq (found hq M) (M .there) (W .1) (parentAt sp i) refl (W .2)
+    under-is : step ≡ change (draft (a .root) swapped) 2 (drop 2 free)
+    under-is = near-under a (size hq M) ms (M .fits .taken .alike) new (M .fits .leaf) (besideOf b) hq (found hq M) (M .there) (W .1) (parentAt sp i) refl (W .2)
 
-    pub put-under-full : (r : Applying) (e1 : ℕ) → e1 ≡ getD free 1 64 → 64 ≤ e1 → Refuses t ArenaFull r → Does t step r
-    put-under-full r e1 e h R = does-like t step _ r (does-full t (size hq M) (draft (t .root) swapped) 1 (drop 2 free) r (omega arith) R) under-is
+    pub put-under-full : 64 ≤ room .second → finish a step ≡ refused ArenaFull a
+    put-under-full h = step-full a (size hq M) step (draft (a .root) swapped) 1 (room .second) (drop 2 free) under-is (M .fits .taken .spared .second) h
 
     -- the parent has children, so its slot is not the one that the new split takes
     apart : sp .slot ≡ getD free 1 64 → ⊥
@@ -222,19 +219,48 @@ module _ (t : TileTree) (out : List Slot) (new : Slot) (b : Beside) where
         let k : getD ns (sp .slot) empty ≡ empty = ap (λ (j : ℕ). getD ns j empty) e ∙ taken-empty ns (size hq M) 1 in
         let g : i < length (kidsOf empty) = subst (λ (n : Node). i < length (kidsOf n)) k h in omega arith
 
-    pub put-under-place : (s : Slot) (more : List Slot) → map viewSlot more ≡ withBoth hq M → viewSlot s ≡ nodeAt (map viewSlot more) sp → i < length (kidsOf (viewSlot s))
-    put-under-place s more y o =
-        subst (λ (n : Node). i < length (kidsOf n))
-        (sym (o ∙ ap (λ (l : List Node). nodeAt l sp) y ∙ getD-set-other (withNew hq M) (taken 1 (view t) .slot) (sp .slot) (newSplit (besideOf b) (taken 0 (view t)) (b .placement)) empty apart))
-        (subst (λ (l : List TileId). i < length l)
-        (sym (alike-kids ns (withNew hq M) (like-first (view t) (size hq M) ms (M .fits .alike) (viewSlot new) (M .fits .leaf) (besideOf b) hq (found hq M)) (sp .slot)))
-        (scan-holds ns (b .target) (parentAt sp i) (sym (M .holder))))
+    module _ (made : List Node) (m : made ≡ setNode (tile (room .first)) new ms) (n : Node) (x : n ≡ newSplit (besideOf b) (tile (room .first)) (b .placement))
+        (more : List Node) (y : more ≡ setNode (tile (room .second)) n made) (s : Slot) (o : viewSlot s ≡ nodeAt more sp) where
+      both : more ≡ withBoth hq M
+      both = both-is hq M made m n x more y
 
-    pub put-under-goes : (r : Applying) (e1 e2 : ℕ) → e1 ≡ getD free 1 64 → e1 < 64 → e2 ≡ getD free 2 64 → (more : List Slot) → map viewSlot more ≡ withBoth hq M → (s n : Slot) → viewSlot s ≡ nodeAt (map viewSlot more) sp
-        → viewSlot n ≡ replacedIn (tile e1) i (viewSlot s) → (done : List Slot) → map viewSlot done ≡ setNode sp (viewSlot n) (map viewSlot more) → Changes t (t .root) (map viewSlot done) e2 r → Does t step r
-    put-under-goes r e1 e2 g h z more y s n o x done w C =
-        does-like t step _ r
-        (C (record { made = draft (t .root) swapped; needed = 2; free = drop 2 free })
-        (ap (draft (t .root)) (sym (w ∙ (λ j. setNode sp ((x ∙ (λ k. replacedIn (tile (g k)) i ((o ∙ ap (λ (l : List Node). nodeAt l sp) y) k))) j) (y j)))))
-        (has-room t (size hq M) 1 (omega arith)) (free-inside t (size hq M) 2) (z ∙ spare-is t (size hq M) 2))
-        under-is
+      pub put-under-place : i < length (kidsOf (viewSlot s))
+      put-under-place =
+          subst (λ (n : Node). i < length (kidsOf n))
+          (sym (o ∙ ap (λ (l : List Node). nodeAt l sp) both ∙ getD-set-other (withNew hq M) (taken 1 a .slot) (sp .slot) (newSplit (besideOf b) (taken 0 a) (b .placement)) empty apart))
+          (subst (λ (l : List TileId). i < length l)
+          (sym (alike-kids ns (withNew hq M) (like-first a (size hq M) ms (M .fits .taken .alike) new (M .fits .leaf) (besideOf b) hq (found hq M)) (sp .slot)))
+          (scan-holds ns (b .target) (parentAt sp i) (sym (M .holder))))
+
+      pub put-under-goes : room .second < 64 → (w : Node) → w ≡ replacedIn (tile (room .second)) i (viewSlot s) → (done : List Node) → done ≡ setNode sp w more → Makes a step root (room .third) done
+      put-under-goes h w u done v =
+          step-goes a (size hq M) step (draft (a .root) swapped) 2 (drop 2 free) root (room .third) done under-is
+          (λ j. draft (tile (M .fits .taken .under j)) (sym (v ∙ (λ j. setNode sp ((u ∙ (λ k. replacedIn (tile (M .fits .taken .spared .second k)) i ((o ∙ ap (λ (l : List Node). nodeAt l sp) both) k))) j) (both j))) j))
+          (has-room a (size hq M) 1 (room .second) (M .fits .taken .spared .second) h) (free-inside a (size hq M) 2) (M .fits .taken .spared .third ∙ spare-is a (size hq M) 2)
+
+-- at the root
+module _ (room : Spares) (ms : List Node) (new : Node) (b : Beside) (a : Arena) (W : Rooted room ms new b a) where
+  abbrev top : Step
+  top = putNear a new (besideOf b) (draft (a .root) ms)
+
+  abbrev L : List Node
+  L = withBoth (W .0) room ms new b a (W .1) (W .2)
+
+  abbrev wide : length (a .nodes) ≡ 64
+  wide = size (W .0) room ms new b a (W .1) (W .2)
+
+  over-is : top ≡ change (draft (taken 1 a) L) 2 (drop 2 (emptySlots (a .nodes)))
+  over-is =
+      let (r, p, N, e, s) = W in
+      near-root a (size r room ms new b a p N) ms (N .fits .taken .alike) new (N .fits .leaf) (besideOf b) p (found r room ms new b a p N) (N .there) e s
+
+  pub put-over-full : 64 ≤ room .second → finish a top ≡ refused ArenaFull a
+  put-over-full h = step-full a wide top (draft (taken 1 a) L) 1 (room .second) (drop 2 (emptySlots (a .nodes))) over-is (W .2 .fits .taken .spared .second) h
+
+  pub put-over-goes : room .second < 64 → (made : List Node) → made ≡ setNode (tile (room .first)) new ms → (n : Node) → n ≡ newSplit (besideOf b) (tile (room .first)) (b .placement)
+      → (done : List Node) → done ≡ setNode (tile (room .second)) n made → Makes a top (room .second) (room .third) done
+  put-over-goes h made m n x done y =
+      let T = W .2 .fits .taken in
+      step-goes a wide top (draft (taken 1 a) L) 2 (drop 2 (emptySlots (a .nodes))) (room .second) (room .third) done over-is
+      (λ j. draft (tile (sym (T .spared .second) j)) (sym (both-is (W .0) room ms new b a (W .1) (W .2) made m n x done y) j))
+      (has-room a wide 1 (room .second) (T .spared .second) h) (free-inside a wide 2) (T .spared .third ∙ spare-is a wide 2)

@@ -1,100 +1,104 @@
--- Laws of the public call: a sound tree is fit for the operations, and an unsound one is refused. Assumes nothing.
-use mathlib.Core.Path.{_≡_, refl, sym, ap, subst, _∙_}
-use mathlib.Core.Logic.{_⊎_, inl, inr}
-use mathlib.Core.Bool.{Bool, true, false, _||_}
-use mathlib.Core.List.{List, [], _∷_, map}
-use Prim.Native.Nat.{ℕ, suc, _<_}
+-- Laws of the public call: a sound arena is fit for the operations, an unsound one is refused, and the tree by value follows its columns. Assumes nothing.
+use mathlib.Core.Path.{_≡_, sym, ap, subst, _∙_}
+use mathlib.Core.Bool.{Bool, true, false}
+use mathlib.Core.List.{List, [], map}
+use Prim.Native.Nat.{ℕ, _<_}
 use native.Mathlib.Omega.{arith}
-use native.Mathlib.Decide.{ℕ-discrete}
-use borrow.Author.Tests.{le-ltb}
-use lib.ListN.{length, getD, length-map, length-take}
+use lib.Ieee.{Float}
+use lib.ListN.{length, getD}
 use Rattle.rules.specs.Lists.{anyOf}
-use Rattle.rules.specs.Tree.{empty, ids, emptyGroup, view, viewSlot, nodeOf, overBy, overSlot}
+use Rattle.rules.specs.Tree.{Arena, Node, tile, view, viewSlot, overSlot}
 use Rattle.rules.specs.Sound.{sound}
-use Rattle.rules.specs.Operations.{unchanged, applyInner, applyBy, apply}
-use Rattle.rules.specs.declared.model.Kind.{Kind}
-use Rattle.rules.specs.declared.model.Kind.the-variants.{Empty, Pane, Tabs, Split}
+use Rattle.rules.specs.Operations.{refused, unchanged, changed, Applied, finish, applyInner, applyBy, apply}
 use Rattle.rules.specs.declared.model.Slot.{Slot}
 use Rattle.rules.specs.declared.model.TileTree.{TileTree}
 use Rattle.rules.specs.declared.operation.TileOp.{TileOp}
-use Rattle.rules.specs.declared.refusal.Answer.the-variants.{Refused}
+use Rattle.rules.specs.declared.refusal.Answer.the-variants.{Accepted, Refused}
 use Rattle.rules.specs.declared.refusal.Refusal.{Refusal}
 use Rattle.rules.specs.declared.refusal.Refusal.the-variants.{NotSound}
-use Rattle.forest.specs.Settled.{Lone}
-use Rattle.lists.specs.Places.{getD-map}
+use Rattle.columns.specs.Columns.{nodesFrom}
+use Rattle.columns.specs.Pack.{overOf, Even}
+use Rattle.repair.specs.Whole.{arenaFrom, Plain}
+use Rattle.repair.proofs.StillLaws.{plain-over, plain-long}
+use Rattle.repair.proofs.SoundLaws.{sound-whole}
 use Rattle.nodes.specs.Find.{find-scan, parent-scan}
-use Rattle.forest.specs.SoundCases.{Plain, sound-cases}
 use Rattle.ops.specs.Trees.{sound-standing}
-use Rattle.ops.specs.Steps.{Fit, applied, Does, Refuses}
+use Rattle.ops.specs.Steps.{Fit, Ready, Makes, applied, Comes}
 use Rattle.ops.specs.declared.Applying.{Applying}
+use Rattle.ops.specs.declared.AppliedIn.{AppliedIn}
+use Rattle.ops.proofs.FinishLaws.{even-plain, plain-even, comes-refused, comes-same}
 
--- ---- a lone empty root has no list over 16
+-- ---- a sound arena
 
-over-none : (s : Slot) (k : Kind) → nodeOf k s ≡ empty → overBy k s ≡ false
-over-none s Empty e = refl
-over-none s (Pane p) e = absurd (let z : _≡_ {A = ℕ} 0 1 = cc in omega arith)
-over-none s (Tabs b) e = absurd (let z : _≡_ {A = ℕ} 0 1 = cc in omega arith)
-over-none s (Split a) e = absurd (let z : _≡_ {A = ℕ} 0 1 = cc in omega arith)
+module _ (root v : ℕ) (hs xs : List (List ℕ)) (ss ms : List (List Float)) (P : Plain hs xs ss ms) (row : root < 64 → length (getD xs root []) ≡ 16) where
+  abbrev a : Arena
+  a = arenaFrom root v hs xs ss ms
 
-over-group : (s : Slot) (k : Kind) → length (s .panes .at) ≡ 16 → nodeOf k s ≡ emptyGroup → overBy k s ≡ false
-over-group s Empty h e = refl
-over-group s (Pane p) h e = refl
-over-group s (Tabs b) h e =
-    let q : ids (s .panes) ≡ [] = cc in
-    let l : length (ids (s .panes)) ≡ 0 = ap length q in
-    le-ltb 16 (s .panes .len) (omega (arith, length-take (s .panes .len) (s .panes .at)))
-over-group s (Split a) h e = absurd (let z : _≡_ {A = ℕ} 0 1 = cc in omega arith)
+  pub sound-ready : sound a ≡ true → Ready root hs xs ss ms
+  sound-ready e =
+      let long = plain-long hs xs ss ms P in
+      let S = sound-standing a long e in
+      let F : Fit (tile root) (nodesFrom hs xs ss ms) = record { size = long; panes = find-scan (a .nodes) (a .root) (S .tree); parents = parent-scan (a .nodes) (a .root) (S .tree); room = S .room } in
+      (plain-even hs xs ss ms P (plain-over hs xs ss ms P ∙ sound-whole root v hs xs ss ms P row e), F)
 
-none-over : (ss : List Slot) → ((i : ℕ) (d : Slot) → i < length ss → overSlot (getD ss i d) ≡ false) → anyOf overSlot ss ≡ false
-unfolding anyOf
-none-over [] h = refl
-none-over (s ∷ ss) h = ap (λ (b : Bool). b || anyOf overSlot ss) (h 0 s (omega arith)) ∙ none-over ss (λ i d g. h (suc i) d (omega arith))
+-- ---- the answer, over columns
 
-module _ (t : TileTree) (size : length (t .slots) ≡ 64) (listed : (d : Slot) → t .root .slot < 64 → length (getD (t .slots) (t .root .slot) d .panes .at) ≡ 16) where
-  long : length (map viewSlot (t .slots)) ≡ 64
-  long = length-map (t .slots) viewSlot ∙ size
+even-over : (hs xs : List (List ℕ)) (ss ms : List (List Float)) → Even hs xs ss ms → anyOf overOf hs ≡ false
+even-over hs xs ss ms E = sym (plain-over hs xs ss ms (even-plain hs xs ss ms E)) ∙ E .whole
 
-  at : (i : ℕ) (d : Slot) → i < length (t .slots) → viewSlot (getD (t .slots) i d) ≡ getD (map viewSlot (t .slots)) i empty
-  at i d h = sym (getD-map viewSlot (t .slots) i d empty h)
+apply-is : (a : Arena) (op : TileOp) → sound a ≡ true → apply a op ≡ finish a (applyInner a op)
+unfolding apply
+apply-is a op e = ap (λ (b : Bool). applyBy b a op) e
 
-  lone-whole : Lone (map viewSlot (t .slots)) (t .root) → anyOf overSlot (t .slots) ≡ false
-  lone-whole L = none-over (t .slots) (λ i d h. go i d h (ℕ-discrete i (t .root .slot)))
-    where
-      go : (i : ℕ) (d : Slot) → i < length (t .slots) → Dec (i ≡ t .root .slot) → overSlot (getD (t .slots) i d) ≡ false
-      go i d h (yes e) =
-          let s = getD (t .slots) i d in
-          over-group s (s .kind) (subst (λ (k : ℕ). length (getD (t .slots) k d .panes .at) ≡ 16) (sym e) (listed d (L .inside)))
-          (at i d h ∙ ap (λ (k : ℕ). getD (map viewSlot (t .slots)) k empty) e ∙ L .is)
-      go i d h (no n) = let s = getD (t .slots) i d in over-none s (s .kind) (at i d h ∙ L .rest i n)
+apply-not : (a : Arena) (op : TileOp) → sound a ≡ false → apply a op ≡ refused NotSound a
+unfolding apply
+apply-not a op e = ap (λ (b : Bool). applyBy b a op) e
 
-  sound-whole : sound (view t) ≡ true → anyOf overSlot (t .slots) ≡ false
-  sound-whole e = go (sound-cases (view t) long e)
-    where
-      go : Plain (view t) ⊎ Lone (map viewSlot (t .slots)) (t .root) → anyOf overSlot (t .slots) ≡ false
-      go (inl p) = p .whole
-      go (inr L) = lone-whole L
+-- and where nothing changes, nothing is said to have changed
+abbrev pub Ends : Arena → TileOp → AppliedIn → List (List ℕ) → List (List ℕ) → List (List Float) → List (List Float) → Type 0
+Ends a op r hs xs ss ms = Comes a (apply a op) r hs xs ss ms × (sound a ≡ true → applyInner a op ≡ unchanged → r .changed ≡ false)
 
-  pub sound-fit : sound (view t) ≡ true → Fit t
-  sound-fit e =
-      let S = sound-standing (view t) long e in
-      record {
-        size = size;
-        whole = sound-whole e;
-        panes = find-scan (map viewSlot (t .slots)) (t .root) (S .tree);
-        parents = parent-scan (map viewSlot (t .slots)) (t .root) (S .tree);
-        room = S .room;
-      }
+module _ (a : Arena) (op : TileOp) (r : AppliedIn) (hs xs : List (List ℕ)) (ss ms : List (List Float)) where
+  pub unsound-ends : sound a ≡ false → r .answer ≡ Refused NotSound → r .changed ≡ false → Ends a op r hs xs ss ms
+  unsound-ends e ra rc = (comes-refused a (apply a op) r hs xs ss ms NotSound (apply-not a op e) ra rc, λ s u. rc)
 
--- ---- the answer
+  module _ (e : sound a ≡ true) where
+    pub refused-ends : (f : Refusal) → finish a (applyInner a op) ≡ refused f a → r .answer ≡ Refused f → r .changed ≡ false → Ends a op r hs xs ss ms
+    refused-ends f q ra rc = (comes-refused a (apply a op) r hs xs ss ms f (apply-is a op e ∙ q) ra rc, λ s u. rc)
+
+    pub changed-ends : (top spare : ℕ) (ns : List Node) → Makes a (applyInner a op) top spare ns → Comes a (finish a (applyInner a op)) r hs xs ss ms → Ends a op r hs xs ss ms
+    changed-ends top spare ns M C =
+        (subst (λ (x : Applied). Comes a x r hs xs ss ms) (sym (apply-is a op e)) C, λ s u. absurd (let q = M .step in let z : _≡_ {A = ℕ} 0 1 = cc in omega arith))
+
+module _ (root v : ℕ) (hs xs : List (List ℕ)) (ss ms : List (List Float)) (op : TileOp) (r : AppliedIn) (hs′ xs′ : List (List ℕ)) (ss′ ms′ : List (List Float)) where
+  pub same-ends : sound (arenaFrom root v hs xs ss ms) ≡ true → Even hs xs ss ms → Even hs′ xs′ ss′ ms′ → (applyInner (arenaFrom root v hs xs ss ms) op ≡ unchanged) × (nodesFrom hs′ xs′ ss′ ms′ ≡ nodesFrom hs xs ss ms)
+      → r .answer ≡ Accepted → r .changed ≡ false → r .root ≡ root → r .revision ≡ v → Ends (arenaFrom root v hs xs ss ms) op r hs′ xs′ ss′ ms′
+  same-ends e E F (q, n) ra rc rr rv = (
+    comes-same (arenaFrom root v hs xs ss ms) (apply (arenaFrom root v hs xs ss ms) op) r hs′ xs′ ss′ ms′ (apply-is (arenaFrom root v hs xs ss ms) op e ∙ ap (finish (arenaFrom root v hs xs ss ms)) q) ra rc
+        (λ z. record { root = tile (sym rr z); revision = sym rv z; nodes = sym n z; over = (even-over hs xs ss ms E ∙ sym (even-over hs′ xs′ ss′ ms′ F)) z }) F,
+    λ s u. rc,
+  )
+
+-- ---- the answer, of a tree by value
 
 abbrev pub Applies : TileTree → TileOp → Applying → Type 0
 Applies t op r = (applied r ≡ apply (view t) op) × ((e : Refusal) → r .answer ≡ Refused e → r .tree ≡ t) × (sound (view t) ≡ true → applyInner (view t) op ≡ unchanged → r .tree ≡ t)
 
-pub unsound-applies : (t : TileTree) (op : TileOp) (r : Applying) → sound (view t) ≡ false → Refuses t NotSound r → Applies t op r
-unfolding apply
-unsound-applies t op r e R =
-    ((λ z. record { answer = R .answer z; tree = view (R .tree z) }) ∙ sym (ap (λ (b : Bool). applyBy b (view t) op) e), λ f q. R .tree, λ s q. R .tree)
+module _ (t : TileTree) (op : TileOp) (a : Arena) (T : a ≡ view t) (d : AppliedIn) (hs xs : List (List ℕ)) (ss ms : List (List Float)) (E : Ends a op d hs xs ss ms) (r : Applying) (ra : r .answer ≡ d .answer) where
+  pub given-applies : d .changed ≡ false → r .tree ≡ t → Applies t op r
+  given-applies c q = (
+    (λ z. record { answer = (ra ∙ E .0 .answer) z; tree = (ap view q ∙ sym T ∙ sym (E .0 .given c)) z }) ∙ ap (λ (y : Arena). apply y op) T,
+    λ e w. q,
+    λ s u. q,
+  )
 
-pub sound-applies : (t : TileTree) (op : TileOp) (r : Applying) → sound (view t) ≡ true → Does t (applyInner (view t) op) r → Applies t op r
-unfolding apply
-sound-applies t op r e D = (D .right ∙ sym (ap (λ (b : Bool). applyBy b (view t) op) e), D .given, λ s q. D .kept q)
+  pub new-applies : d .changed ≡ true → (slots : List Slot) → view (r .tree) ≡ record { root = tile (d .root); revision = d .revision; nodes = map viewSlot slots; over = anyOf overSlot slots }
+      → (map viewSlot slots ≡ nodesFrom hs xs ss ms) × (anyOf overSlot slots ≡ anyOf overOf hs) → Applies t op r
+  new-applies c slots q (n, o) =
+      let acc = E .0 .taken c in (
+        (λ z. record { answer = (ra ∙ E .0 .answer) z; tree = (q ∙ (λ y. record { root = tile (d .root); revision = d .revision; nodes = n y; over = o y }) ∙ sym (E .0 .tree acc .0)) z }) ∙ ap (λ (y : Arena). apply y op) T,
+        λ e w. absurd (let u = ra ∙ acc in let z : _≡_ {A = ℕ} 0 1 = cc in omega arith),
+        λ s u. absurd
+            (let k = E .1 (ap sound T ∙ s) (ap (λ (y : Arena). applyInner y op) T ∙ u) in
+            let z : _≡_ {A = ℕ} 0 1 = cc in omega arith),
+      )

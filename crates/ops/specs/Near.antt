@@ -19,7 +19,7 @@ use Rattle.rules.specs.declared.model.Axis.{Axis}
 use Rattle.rules.specs.declared.refusal.Refusal.{Refusal}
 use Rattle.rules.specs.declared.refusal.Refusal.the-variants.{InvalidTileId, InvalidOperation}
 use Rattle.forest.specs.Lists.{All, never}
-use Rattle.nodes.specs.Find.{isSplit, Stands}
+use Rattle.nodes.specs.Find.{parentFrom, scanParent, isSplit, Stands}
 use Rattle.ops.specs.Trees.{reading-like}
 
 -- ---- slots that are the same but where neither has a split: they read alike, and have the same parents
@@ -56,6 +56,14 @@ unfolding seekParent
 seek-like ns ms t h [] = refl
 seek-like ns ms t h (x ∷ xs) = λ z. parentBy (position (sameTile t) (h (x .slot) z)) x (seek-like ns ms t h xs z)
 
+-- a scan goes by the children alone
+scan-from : (k : ℕ) (ns ms : List Node) (t : TileId) → length ms ≡ length ns → ((i : ℕ) → kidsOf (getD ms i empty) ≡ kidsOf (getD ns i empty)) → parentFrom k ms t ≡ parentFrom k ns t
+unfolding parentFrom
+scan-from k [] [] t l h = refl
+scan-from k [] (m ∷ ms) t l h = absurd (omega arith)
+scan-from k (n ∷ ns) [] t l h = absurd (omega arith)
+scan-from k (n ∷ ns) (m ∷ ms) t l h = λ z. parentBy (position (sameTile t) (h 0 z)) (tile k) (scan-from (suc k) ns ms t (omega arith) (λ i. h (suc i)) z)
+
 module _ (ns ms : List Node) (al : Alike ns ms) where
   pub alike-kids : (i : ℕ) → kidsOf (getD ms i empty) ≡ kidsOf (getD ns i empty)
   alike-kids i = go (al i)
@@ -64,12 +72,19 @@ module _ (ns ms : List Node) (al : Alike ns ms) where
       go (inl e) = ap kidsOf e
       go (inr (e, f)) = no-kids (getD ms i empty) f ∙ sym (no-kids (getD ns i empty) e)
 
+  pub alike-scan : length ms ≡ length ns → (t : TileId) → scanParent ms t ≡ scanParent ns t
+  alike-scan l t = scan-from 0 ns ms t l alike-kids
+
   pub alike-axis : (x : Axis) (i : ℕ) → hasAxis x (getD ms i empty) ≡ hasAxis x (getD ns i empty)
   alike-axis x i = go (al i)
     where
       go : (getD ms i empty ≡ getD ns i empty) ⊎ ((isSplit (getD ns i empty) ≡ false) × (isSplit (getD ms i empty) ≡ false)) → hasAxis x (getD ms i empty) ≡ hasAxis x (getD ns i empty)
       go (inl e) = ap (hasAxis x) e
       go (inr (e, f)) = no-axis x (getD ms i empty) f ∙ sym (no-axis x (getD ns i empty) e)
+
+  pub alike-same : (x : Axis) (Q : Option Parent) → sameAxisParent x Q ms ≡ sameAxisParent x Q ns
+  alike-same x none = refl
+  alike-same x (some q) = alike-axis x (q .split .slot)
 
   pub alike-parent : (r t : TileId) → findParent r ms t ≡ findParent r ns t
   alike-parent r t = ap (seekParent ms t) (reading-like ns ms alike-kids 1025 (r ∷ [])) ∙ seek-like ns ms t alike-kids (readingFrom ns r)
@@ -151,8 +166,7 @@ module _ (a : Arena) (size : length (a .nodes) ≡ 64) (ms : List Node) (al : Al
   parent-first = alike-parent (a .nodes) setFirst like-first (a .root) (b .target) ∙ found
 
   axis-like : (xs : List Node) → Alike (a .nodes) xs → (Q : Option Parent) → sameAxisParent (b .axis) Q xs ≡ sameAxisParent (b .axis) Q (a .nodes)
-  axis-like xs l none = refl
-  axis-like xs l (some q) = alike-axis (a .nodes) xs l (b .axis) (q .split .slot)
+  axis-like xs l Q = alike-same (a .nodes) xs l (b .axis) Q
 
   same-d : (c : Bool) → sameAxisParent (b .axis) P (a .nodes) ≡ c → sameAxisParent (b .axis) (parentOf b d) ms ≡ c
   same-d c e = ap (λ (Q : Option Parent). sameAxisParent (b .axis) Q ms) parent-d ∙ axis-like ms al P ∙ e

@@ -1,63 +1,56 @@
 // What follows an operation: refusals 11 and 3 after repair, the revision, and the repair itself (the Rust's apply, 225 to 238).
-use crate::Applying;
-use repair::whole;
-use rules::model::Slot;
-use rules::model::TileId;
-use rules::model::TileTree;
+use crate::AppliedIn;
+use repair::settle;
 use rules::refusal::Answer;
 use rules::refusal::Refusal;
 ghost use mathlib.Core.Path.{_≡_};
 ghost use mathlib.Core.Bool.{false};
-ghost use mathlib.Core.List.{map};
-ghost use Rattle.rules.specs.Lists.{anyOf};
-ghost use Rattle.rules.specs.Tree.{viewSlot, overSlot};
+ghost use Rattle.rules.specs.Tree.{Arena};
+ghost use Rattle.rules.specs.Operations.{Step};
 ghost use Rattle.rules.specs.Operations as Rule;
-ghost use Rattle.ops.specs.Steps.{Does, Refuses, Changes};
+ghost use Rattle.rules.specs.declared.refusal.Answer.the-variants as Answers;
+ghost use Rattle.columns.specs.Columns.{nodesFrom};
+ghost use Rattle.columns.specs.Pack.{Even};
+ghost use Rattle.ops.specs.Steps.{Makes, Comes};
 
-// The tree as given, and the refusal.
-pub fn refused(t: TileTree, e: Refusal) -> Applying
-    ensures { λ r. ⌜ Refuses t e r ⌝ }
+pub fn refused(root: u64, revision: u64, e: Refusal) -> AppliedIn
+    ensures { λ r. ⌜ (r .answer ≡ Answers.Refused e) × (r .changed ≡ false) ⌝ }
 {
-    Applying {
+    AppliedIn {
         answer: Answer::Refused(e),
-        tree: t,
-    }
-}
-
-// Accepted, and nothing changed: the tree and its revision stay, also the last one.
-pub fn unchanged(t: TileTree) -> Applying
-    ensures { λ r. ⌜ Does t Rule.unchanged r ⌝ }
-{
-    Applying {
-        answer: Answer::Accepted,
-        tree: t,
-    }
-}
-
-// Something changed: these slots under this root, repaired, with the next revision. A fresh root goes into the spare slot.
-pub fn change(t: TileTree, root: TileId, slots: [Slot; 64], spare: u64) -> Applying
-    requires { ⌜ anyOf overSlot slots ≡ false ⌝ }
-    ensures { λ r. ⌜ Changes t root (map viewSlot slots) spare r ⌝ }
-{
-    let revision = t.revision;
-    if revision == 18446744073709551615 {
-        return refused(t, Refusal::RevisionExhausted);
-    }
-    let tree = TileTree {
         root,
-        revision: revision + 1,
-        slots,
-    };
-    let done = whole::normalize_with_report(tree, spare);
+        revision,
+        changed: false,
+    }
+}
+
+// Something changed: the slots under the root `top`, repaired, with the next revision. A fresh root goes into the spare slot.
+pub fn change(
+    root: u64,
+    revision: u64,
+    top: u64,
+    spare: u64,
+    heads: &mut [[u64; 8]; 64],
+    ids: &mut [[u64; 16]; 64],
+    shares: &mut [[f64; 16]; 64],
+    minima: &mut [[f64; 16]; 64],
+) -> AppliedIn
+    requires { ⌜ Even (now heads) (now ids) (now shares) (now minima) ⌝ }
+    ensures { λ r. ⌜ ((a : Arena) (s : Step) → a .revision ≡ revision → Makes a s top spare (nodesFrom (now (heads .entry)) (now (ids .entry)) (now (shares .entry)) (now (minima .entry))) → Comes a (Rule.finish a s) r (now (heads .exit)) (now (ids .exit)) (now (shares .exit)) (now (minima .exit))) ⌝ }
+{
+    if revision == 18446744073709551615 {
+        return refused(root, revision, Refusal::RevisionExhausted);
+    }
+    let mut acts = [[0u64; 3]; 1300];
+    let done = settle::settle(top, spare, heads, ids, shares, minima, &mut acts);
     let answer = done.answer;
     match answer {
-        Answer::Accepted => {
-            let made = done.tree;
-            Applying {
-                answer: Answer::Accepted,
-                tree: made,
-            }
-        }
-        Answer::Refused(e) => refused(t, e),
+        Answer::Accepted => AppliedIn {
+            answer: Answer::Accepted,
+            root: done.root,
+            revision: revision + 1,
+            changed: true,
+        },
+        Answer::Refused(e) => refused(root, revision, e),
     }
 }

@@ -1,35 +1,42 @@
-// Putting a tile beside another: the Rust's insert_tile_near.
-use crate::Applying;
-use crate::finish;
+// Putting a tile beside another: the Rust's insert_tile_near. The columns hold the tree's slots, or those with a pane taken out; the spare slots are those
+// that were empty when the call began.
+use crate::Stepped;
 use nodes::Beside;
 use nodes::Holder;
+use nodes::Spares;
 use nodes::find;
 use nodes::slots;
 use nodes::splits;
 use rules::model::Axis;
 use rules::model::Slot;
 use rules::model::TileId;
-use rules::model::TileTree;
 use rules::refusal::Refusal;
 ghost use mathlib.Core.Path.{_≡_};
 ghost use mathlib.Core.Bool.{false};
-ghost use mathlib.Core.List.{map};
-ghost use Rattle.rules.specs.Lists.{anyOf};
-ghost use Rattle.rules.specs.Tree.{view, viewSlot, overSlot};
+ghost use Rattle.rules.specs.Tree.{Arena, viewSlot, overSlot};
 ghost use Rattle.rules.specs.Insert.{draft, sameAxisParent};
 ghost use Rattle.rules.specs.Operations.{putNear};
+ghost use Rattle.columns.specs.Columns.{nodesFrom};
+ghost use Rattle.columns.specs.Pack.{Even};
 ghost use Rattle.nodes.specs.Parts.{holderOf, besideOf};
-ghost use Rattle.ops.specs.Steps.{Does, Fits, Nears, Within, Rooted, Under};
+ghost use Rattle.ops.specs.Steps.{Puts, Fits, Apart, Within, Rooted, Under};
 
 // Whether the parent is a split along the axis.
-fn same_axis_parent(slots: [Slot; 64], parent: Holder, axis: Axis) -> bool
-    requires { ⌜ anyOf overSlot slots ≡ false ⌝ }
-    ensures { λ r. ⌜ r ≡ sameAxisParent axis (holderOf parent) (map viewSlot slots) ⌝ }
+fn same_axis_parent(
+    heads: &[[u64; 8]; 64],
+    ids: &[[u64; 16]; 64],
+    shares: &[[f64; 16]; 64],
+    minima: &[[f64; 16]; 64],
+    parent: Holder,
+    axis: Axis,
+) -> bool
+    requires { ⌜ Even (now heads) (now ids) (now shares) (now minima) ⌝ }
+    ensures { λ r. ⌜ r ≡ sameAxisParent axis (holderOf parent) (nodesFrom (now (heads .entry)) (now (ids .entry)) (now (shares .entry)) (now (minima .entry))) ⌝ }
 {
     match parent {
         Holder::Nothing => false,
         Holder::In { split, index: _ } => {
-            let s = slots::get_node(slots, split);
+            let s = slots::get_node(heads, ids, shares, minima, split);
             splits::has_axis(s, axis)
         }
     }
@@ -37,117 +44,172 @@ fn same_axis_parent(slots: [Slot; 64], parent: Holder, axis: Axis) -> bool
 
 // In a parent of the same axis: the one list that grows may pass 16, after the test of room.
 fn put_in(
-    t: TileTree,
-    out: [Slot; 64],
+    root: u64,
+    room: Spares,
     new: Slot,
     b: Beside,
     split: TileId,
     index: usize,
-) -> Applying
-    requires { ⌜ Within t out new b split index ⌝ }
-    ensures { λ r. ⌜ Does t (putNear (view t) (viewSlot new) (besideOf b) (draft (t .root) (map viewSlot out))) r ⌝ }
+    heads: &mut [[u64; 8]; 64],
+    ids: &mut [[u64; 16]; 64],
+    shares: &mut [[f64; 16]; 64],
+    minima: &mut [[f64; 16]; 64],
+) -> Stepped
+    requires { ⌜ Even (now heads) (now ids) (now shares) (now minima) × (overSlot new ≡ false) × ((a : Arena) × Within root room (nodesFrom (now heads) (now ids) (now shares) (now minima)) (viewSlot new) b split index a) ⌝ }
+    ensures { λ r. ⌜ Puts (Within root room (nodesFrom (now (heads .entry)) (now (ids .entry)) (now (shares .entry)) (now (minima .entry))) (viewSlot new) b split index) (λ (a : Arena). putNear a (viewSlot new) (besideOf b) (draft (a .root) (nodesFrom (now (heads .entry)) (now (ids .entry)) (now (shares .entry)) (now (minima .entry))))) r (now (heads .exit)) (now (ids .exit)) (now (shares .exit)) (now (minima .exit)) ⌝ }
 {
-    let given = t.slots;
-    let root = t.root;
-    let e = slots::spares(given);
-    if 64 <= e.first {
-        return finish::refused(t, Refusal::ArenaFull);
+    if 64 <= room.first {
+        return Stepped::Refused(Refusal::ArenaFull);
     }
-    let inserted = TileId { slot: e.first };
-    let made = slots::set_node(out, inserted, new);
-    let s = slots::get_node(made, split);
+    let inserted = TileId { slot: room.first };
+    slots::set_node(heads, ids, shares, minima, inserted, new);
+    let s = slots::get_node(heads, ids, shares, minima, split);
     slots::rows(s);
     let children = s.children;
     if 16 <= children.len {
-        return finish::refused(t, Refusal::TooWide);
+        return Stepped::Refused(Refusal::TooWide);
     }
     let grown = splits::inserted_in(s, b, inserted, index);
-    let done = slots::set_node(made, split, grown);
-    finish::change(t, root, done, e.second)
+    slots::set_node(heads, ids, shares, minima, split, grown);
+    Stepped::Changed {
+        root,
+        spare: room.second,
+    }
 }
 
 // At the root: a new split of the two becomes the root.
-fn put_over(t: TileTree, out: [Slot; 64], new: Slot, b: Beside) -> Applying
-    requires { ⌜ Rooted t out new b ⌝ }
-    ensures { λ r. ⌜ Does t (putNear (view t) (viewSlot new) (besideOf b) (draft (t .root) (map viewSlot out))) r ⌝ }
+fn put_over(
+    room: Spares,
+    new: Slot,
+    b: Beside,
+    heads: &mut [[u64; 8]; 64],
+    ids: &mut [[u64; 16]; 64],
+    shares: &mut [[f64; 16]; 64],
+    minima: &mut [[f64; 16]; 64],
+) -> Stepped
+    requires { ⌜ Even (now heads) (now ids) (now shares) (now minima) × (overSlot new ≡ false) ⌝ }
+    ensures { λ r. ⌜ Puts (Rooted room (nodesFrom (now (heads .entry)) (now (ids .entry)) (now (shares .entry)) (now (minima .entry))) (viewSlot new) b) (λ (a : Arena). putNear a (viewSlot new) (besideOf b) (draft (a .root) (nodesFrom (now (heads .entry)) (now (ids .entry)) (now (shares .entry)) (now (minima .entry))))) r (now (heads .exit)) (now (ids .exit)) (now (shares .exit)) (now (minima .exit)) ⌝ }
 {
-    let given = t.slots;
-    let room = slots::spares(given);
     if 64 <= room.second {
-        return finish::refused(t, Refusal::ArenaFull);
+        return Stepped::Refused(Refusal::ArenaFull);
     }
     let inserted = TileId { slot: room.first };
     let top = TileId { slot: room.second };
-    let made = slots::set_node(out, inserted, new);
+    slots::set_node(heads, ids, shares, minima, inserted, new);
     let both = splits::new_split(b, inserted);
-    let done = slots::set_node(made, top, both);
-    finish::change(t, top, done, room.third)
+    slots::set_node(heads, ids, shares, minima, top, both);
+    Stepped::Changed {
+        root: room.second,
+        spare: room.third,
+    }
 }
 
 // In a parent of the other axis: a new split of the two takes the target's place, which keeps its share and minimum.
 fn put_under(
-    t: TileTree,
-    out: [Slot; 64],
+    root: u64,
+    room: Spares,
     new: Slot,
     b: Beside,
     split: TileId,
     index: usize,
-) -> Applying
-    requires { ⌜ Under t out new b split index ⌝ }
-    ensures { λ r. ⌜ Does t (putNear (view t) (viewSlot new) (besideOf b) (draft (t .root) (map viewSlot out))) r ⌝ }
+    heads: &mut [[u64; 8]; 64],
+    ids: &mut [[u64; 16]; 64],
+    shares: &mut [[f64; 16]; 64],
+    minima: &mut [[f64; 16]; 64],
+) -> Stepped
+    requires { ⌜ Even (now heads) (now ids) (now shares) (now minima) × (overSlot new ≡ false) × ((a : Arena) × Under root room (nodesFrom (now heads) (now ids) (now shares) (now minima)) (viewSlot new) b split index a) ⌝ }
+    ensures { λ r. ⌜ Puts (Under root room (nodesFrom (now (heads .entry)) (now (ids .entry)) (now (shares .entry)) (now (minima .entry))) (viewSlot new) b split index) (λ (a : Arena). putNear a (viewSlot new) (besideOf b) (draft (a .root) (nodesFrom (now (heads .entry)) (now (ids .entry)) (now (shares .entry)) (now (minima .entry))))) r (now (heads .exit)) (now (ids .exit)) (now (shares .exit)) (now (minima .exit)) ⌝ }
 {
-    let given = t.slots;
-    let root = t.root;
-    let e = slots::spares(given);
-    if 64 <= e.second {
-        return finish::refused(t, Refusal::ArenaFull);
+    if 64 <= room.second {
+        return Stepped::Refused(Refusal::ArenaFull);
     }
-    let inserted = TileId { slot: e.first };
-    let held = TileId { slot: e.second };
-    let made = slots::set_node(out, inserted, new);
+    let inserted = TileId { slot: room.first };
+    let held = TileId { slot: room.second };
+    slots::set_node(heads, ids, shares, minima, inserted, new);
     let both = splits::new_split(b, inserted);
-    let more = slots::set_node(made, held, both);
-    let s = slots::get_node(more, split);
+    slots::set_node(heads, ids, shares, minima, held, both);
+    let s = slots::get_node(heads, ids, shares, minima, split);
     let swapped = splits::replaced_in(s, held, index);
-    let done = slots::set_node(more, split, swapped);
-    finish::change(t, root, done, e.third)
+    slots::set_node(heads, ids, shares, minima, split, swapped);
+    Stepped::Changed {
+        root,
+        spare: room.third,
+    }
 }
 
 // A new split of the two, at the root or under the parent.
-fn put_apart(t: TileTree, out: [Slot; 64], new: Slot, b: Beside, parent: Holder) -> Applying
-    requires { ⌜ Nears t out new b (holderOf parent) × (sameAxisParent (b .axis) (holderOf parent) (map viewSlot (t .slots)) ≡ false) ⌝ }
-    ensures { λ r. ⌜ Does t (putNear (view t) (viewSlot new) (besideOf b) (draft (t .root) (map viewSlot out))) r ⌝ }
+fn put_apart(
+    root: u64,
+    room: Spares,
+    new: Slot,
+    b: Beside,
+    parent: Holder,
+    heads: &mut [[u64; 8]; 64],
+    ids: &mut [[u64; 16]; 64],
+    shares: &mut [[f64; 16]; 64],
+    minima: &mut [[f64; 16]; 64],
+) -> Stepped
+    requires { ⌜ Even (now heads) (now ids) (now shares) (now minima) × (overSlot new ≡ false) × ((a : Arena) × Apart root room (nodesFrom (now heads) (now ids) (now shares) (now minima)) (viewSlot new) b (holderOf parent) a) ⌝ }
+    ensures { λ r. ⌜ Puts (Apart root room (nodesFrom (now (heads .entry)) (now (ids .entry)) (now (shares .entry)) (now (minima .entry))) (viewSlot new) b (holderOf parent)) (λ (a : Arena). putNear a (viewSlot new) (besideOf b) (draft (a .root) (nodesFrom (now (heads .entry)) (now (ids .entry)) (now (shares .entry)) (now (minima .entry))))) r (now (heads .exit)) (now (ids .exit)) (now (shares .exit)) (now (minima .exit)) ⌝ }
 {
     let target = b.target;
-    let root = t.root;
-    if target.slot == root.slot {
-        return put_over(t, out, new, b);
+    if target.slot == root {
+        return put_over(room, new, b, heads, ids, shares, minima);
     }
     match parent {
-        Holder::Nothing => finish::refused(t, Refusal::InvalidOperation),
-        Holder::In { split, index } => put_under(t, out, new, b, split, index),
+        Holder::Nothing => Stepped::Refused(Refusal::InvalidOperation),
+        Holder::In { split, index } => put_under(
+            root,
+            room,
+            new,
+            b,
+            split,
+            index,
+            heads,
+            ids,
+            shares,
+            minima,
+        ),
     }
 }
 
-// insert_tile_near, of a tile that takes the lowest empty slot. `out` is the tree's slots, or those with a pane taken out: the slots that were empty
-// when the call began are those of the tree.
-pub fn put_near(t: TileTree, out: [Slot; 64], new: Slot, b: Beside) -> Applying
-    requires { ⌜ Fits t out new ⌝ }
-    ensures { λ r. ⌜ Does t (putNear (view t) (viewSlot new) (besideOf b) (draft (t .root) (map viewSlot out))) r ⌝ }
+// insert_tile_near, of a tile that takes the lowest spare slot.
+pub fn put_near(
+    root: u64,
+    room: Spares,
+    new: Slot,
+    b: Beside,
+    heads: &mut [[u64; 8]; 64],
+    ids: &mut [[u64; 16]; 64],
+    shares: &mut [[f64; 16]; 64],
+    minima: &mut [[f64; 16]; 64],
+) -> Stepped
+    requires { ⌜ Even (now heads) (now ids) (now shares) (now minima) × (overSlot new ≡ false) × ((a : Arena) × Fits root room (nodesFrom (now heads) (now ids) (now shares) (now minima)) (viewSlot new) a) ⌝ }
+    ensures { λ r. ⌜ Puts (Fits root room (nodesFrom (now (heads .entry)) (now (ids .entry)) (now (shares .entry)) (now (minima .entry))) (viewSlot new)) (λ (a : Arena). putNear a (viewSlot new) (besideOf b) (draft (a .root) (nodesFrom (now (heads .entry)) (now (ids .entry)) (now (shares .entry)) (now (minima .entry))))) r (now (heads .exit)) (now (ids .exit)) (now (shares .exit)) (now (minima .exit)) ⌝ }
 {
     let target = b.target;
-    let given = t.slots;
-    let at = slots::get_node(out, target);
+    let at = slots::get_node(heads, ids, shares, minima, target);
     if columns::slots::is_empty(at) {
-        return finish::refused(t, Refusal::InvalidTileId);
+        return Stepped::Refused(Refusal::InvalidTileId);
     }
-    let parent = find::find_parent(given, target);
+    let parent = find::find_parent(heads, ids, target);
     let axis = b.axis;
-    if !same_axis_parent(given, parent, axis) {
-        return put_apart(t, out, new, b, parent);
+    if !same_axis_parent(heads, ids, shares, minima, parent, axis) {
+        return put_apart(root, room, new, b, parent, heads, ids, shares, minima);
     }
     match parent {
-        Holder::Nothing => finish::refused(t, Refusal::InvalidOperation),
-        Holder::In { split, index } => put_in(t, out, new, b, split, index),
+        Holder::Nothing => Stepped::Refused(Refusal::InvalidOperation),
+        Holder::In { split, index } => put_in(
+            root,
+            room,
+            new,
+            b,
+            split,
+            index,
+            heads,
+            ids,
+            shares,
+            minima,
+        ),
     }
 }

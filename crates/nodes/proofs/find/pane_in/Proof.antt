@@ -1,58 +1,74 @@
--- `nodes::find::pane_in` goes by the slot's kind. Assumes nothing.
-use mathlib.Core.Path.{sym, ap, _∙_}
-use Rattle.rules.specs.Tree.{nodeOf}
-use Rattle.rules.specs.Target.{nowhere, located}
-use Rattle.rules.specs.declared.model.Kind.{Kind}
-use Rattle.nodes.proofs.SlotLaws.{tabs-few}
+-- `nodes::find::pane_in` goes by the row's kind. Assumes nothing.
+use mathlib.Core.Path.{_∙_}
+use mathlib.Core.List.{[]}
+use lib.ListN.{getD}
+use Rattle.rules.specs.Tree.{tile}
+use Rattle.nodes.proofs.FindLaws.{head-few, row-pane, row-tabs, row-nowhere}
 use borrow.Author.Needs.{needs}
 use Rattle.nodes.proofs.find.pane_in.Statement.{statement}
 use Rattle.nodes.proofs.find.pane_in.Tie as tie
 
-enum-told : tie.Need-enum-told
-enum-told c = search needs
+mul-h : tie.Need-mul-h
+mul-h c = search needs
 
-enum-known-k : tie.Need-enum-known-k
-enum-known-k c = search needs
+element-copy-out-h : tie.Need-element-copy-out-h
+element-copy-out-h c = search needs
+
+array-read-if1 : tie.Need-array-read-if1
+array-read-if1 c = search needs
+
+array-read-in-tile : tie.Need-array-read-in-tile
+array-read-in-tile c = search needs
 
 in-tile-requires : tie.Need-in-tile-requires
 in-tile-requires c κs = search needs
 
-enum-told-2 : tie.Need-enum-told-2
-enum-told-2 c = search needs
+returns : tie.Need-returns
+returns c =
+    let x = c .before .before .before .args in
+    λ ss ms. c .in-tile .ensures ∙ row-pane (getD (x .heads .now) (x .i) []) (getD (x .ids .now) (x .i) []) ss ms (x .pane) (tile (x .i)) (c .before .if1 .taken)
+
+array-read-if2 : tie.Need-array-read-if2
+array-read-if2 c = search needs
+
+mul-row : tie.Need-mul-row
+mul-row c = search needs
+
+element-copy-out-row : tie.Need-element-copy-out-row
+element-copy-out-row c = search needs
+
+array-read-t28 : tie.Need-array-read-t28
+array-read-t28 c = search needs
 
 in-tabs-requires : tie.Need-in-tabs-requires
-in-tabs-requires c κs = let h = c .before .before .before in tabs-few (h .args .s) _ (c .enum-told2 .given .1) (h .pre)
-
-enum-told-3 : tie.Need-enum-told-3
-enum-told-3 c = search needs
-
-returns : tie.Need-returns
-returns c = search needs
+in-tabs-requires c κs =
+    let h = c .before .before .before .before in
+    head-few (getD (h .args .heads .now) (h .args .i) []) (h .pre .3)
 
 returns-2 : tie.Need-returns-2
 returns-2 c =
     let x = c .before .before .before .before .before .args in
-    c .in-tile .ensures ∙ ap (λ (k : Kind). located (nodeOf k (x .s)) (x .pane) (x .tile) nowhere) (sym (c .before .before .k .given .1))
+    λ ss ms. c .in-tabs .ensures ∙ row-tabs (getD (x .heads .now) (x .i) []) (getD (x .ids .now) (x .i) []) ss ms (x .pane) (tile (x .i)) (c .before .before .if2 .taken)
 
 returns-3 : tie.Need-returns-3
 returns-3 c =
-    let x = c .before .before .before .before .args in
-    c .in-tabs .ensures ∙ ap (λ (k : Kind). located (nodeOf k (x .s)) (x .pane) (x .tile) nowhere) (sym (c .before .enum-told2 .given .1))
-
-returns-4 : tie.Need-returns-4
-returns-4 c = search needs
+    let x = c .before .before .before .args in
+    λ ss ms. row-nowhere (getD (x .heads .now) (x .i) []) (getD (x .ids .now) (x .i) []) ss ms (x .pane) (tile (x .i)) (c .before .if1 .left) (c .if2 .left)
 
 pub pane-in-spec : {M : Type 1} → statement M
 pane-in-spec =
     tie.close
     (tie.spec
-    enum-told
-    enum-known-k
+    mul-h
+    element-copy-out-h
+    array-read-if1
+    array-read-in-tile
     in-tile-requires
-    enum-told-2
-    in-tabs-requires
-    enum-told-3
     returns
+    array-read-if2
+    mul-row
+    element-copy-out-row
+    array-read-t28
+    in-tabs-requires
     returns-2
-    returns-3
-    returns-4)
+    returns-3)

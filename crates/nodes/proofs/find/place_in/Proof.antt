@@ -1,53 +1,55 @@
--- `nodes::find::place_in` goes by the slot's kind. Assumes nothing.
-use mathlib.Core.Path.{sym, ap, _∙_}
-use Rattle.rules.specs.Lists.{position}
-use Rattle.rules.specs.Tree.{nodeOf, kidsOf, sameTile}
-use Rattle.rules.specs.declared.model.Kind.{Kind}
-use Rattle.nodes.proofs.FindLaws.{no-kids}
-use Rattle.nodes.proofs.SlotLaws.{split-few}
+-- `nodes::find::place_in` searches the children of a split's row. Assumes nothing.
+use mathlib.Core.Path.{_∙_}
+use mathlib.Core.List.{[]}
+use lib.ListN.{getD}
+use Rattle.nodes.proofs.FindLaws.{head-few, row-kids, row-childless}
 use borrow.Author.Needs.{needs}
 use Rattle.nodes.proofs.find.place_in.Statement.{statement}
 use Rattle.nodes.proofs.find.place_in.Tie as tie
 
-enum-told : tie.Need-enum-told
-enum-told c = search needs
+mul-h : tie.Need-mul-h
+mul-h c = search needs
 
-enum-told-2 : tie.Need-enum-told-2
-enum-told-2 c = search needs
+element-copy-out-h : tie.Need-element-copy-out-h
+element-copy-out-h c = search needs
 
-enum-told-3 : tie.Need-enum-told-3
-enum-told-3 c = search needs
+array-read-if1 : tie.Need-array-read-if1
+array-read-if1 c = search needs
 
-enum-told-4 : tie.Need-enum-told-4
-enum-told-4 c = search needs
+mul-row : tie.Need-mul-row
+mul-row c = search needs
+
+element-copy-out-row : tie.Need-element-copy-out-row
+element-copy-out-row c = search needs
+
+array-read-t22 : tie.Need-array-read-t22
+array-read-t22 c = search needs
 
 position-requires : tie.Need-position-requires
-position-requires c κs = let h = c .before .before in split-few (h .before .args .s) _ (c .enum-told4 .given .1) (h .before .pre) .0
+position-requires c κs =
+    let h = c .before .before .before in
+    head-few (getD (h .args .heads .now) (h .args .i) []) (h .pre .3)
 
 returns : tie.Need-returns
-returns c = let s = c .before .before .before .args .s in no-kids (c .before .before .before .args .target) (nodeOf (s .kind) s) (ap (λ (k : Kind). kidsOf (nodeOf k s)) (c .enum-told .given .1))
+returns c =
+    let x = c .before .before .before .before .args in
+    λ ss ms. c .position .ensures ∙ row-kids (getD (x .heads .now) (x .i) []) (getD (x .ids .now) (x .i) []) ss ms (x .target) (c .before .before .if1 .taken)
 
 returns-2 : tie.Need-returns-2
-returns-2 c = let s = c .before .before .before .args .s in no-kids (c .before .before .before .args .target) (nodeOf (s .kind) s) (ap (λ (k : Kind). kidsOf (nodeOf k s)) (c .enum-told2 .given .1))
-
-returns-3 : tie.Need-returns-3
-returns-3 c = let s = c .before .before .before .args .s in no-kids (c .before .before .before .args .target) (nodeOf (s .kind) s) (ap (λ (k : Kind). kidsOf (nodeOf k s)) (c .enum-told3 .given .1))
-
-returns-4 : tie.Need-returns-4
-returns-4 c =
-    let x = c .before .before .before .before .args in
-    c .position .ensures ∙ ap (λ (k : Kind). position (sameTile (x .target)) (kidsOf (nodeOf k (x .s)))) (sym (c .before .enum-told4 .given .1))
+returns-2 c =
+    let x = c .before .before .args in
+    λ ss ms. row-childless (getD (x .heads .now) (x .i) []) (getD (x .ids .now) (x .i) []) ss ms (x .target) (c .if1 .left)
 
 pub place-in-spec : {M : Type 1} → statement M
 place-in-spec =
     tie.close
     (tie.spec
-    enum-told
-    enum-told-2
-    enum-told-3
-    enum-told-4
+    mul-h
+    element-copy-out-h
+    array-read-if1
+    mul-row
+    element-copy-out-row
+    array-read-t22
     position-requires
     returns
-    returns-2
-    returns-3
-    returns-4)
+    returns-2)

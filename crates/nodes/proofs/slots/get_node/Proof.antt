@@ -1,9 +1,10 @@
--- `nodes::slots::get_node` reads a slot, or an empty one past the end. Assumes nothing.
-use mathlib.Core.Path.{_≡_, _∙_}
+-- `nodes::slots::get_node` reads a row, or an empty slot past the end. Assumes nothing.
+use mathlib.Core.Path.{_∙_}
 use native.Mathlib.Omega.{arith}
-use lib.ListN.{length}
 use Rattle.rules.specs.declared.model.Kind.the-variants.{Empty}
-use Rattle.nodes.proofs.SlotLaws.{slot-whole, bare-view, bare-whole, node-past, node-in}
+use Rattle.columns.specs.Columns.{nodesFrom}
+use Rattle.columns.specs.RowLaws.{even-long, even-row}
+use Rattle.nodes.proofs.SlotLaws.{bare-view, bare-whole, node-past}
 use borrow.Author.Needs.{needs}
 use Rattle.nodes.proofs.slots.get_node.Statement.{statement}
 use Rattle.nodes.proofs.slots.get_node.Tie as tie
@@ -14,22 +15,21 @@ bare-slot-requires c κs = search needs
 returns : tie.Need-returns
 returns c =
     let h = c .before .before in
-    let l : length (h .args .t1) ≡ 64 = search needs in
-    let s = c .bare-slot .result in
-    (bare-view s Empty (c .bare-slot .ensures) ∙ node-past (h .args .t1) l (h .args .id .slot) (c .before .if1 .taken), bare-whole s Empty (c .bare-slot .ensures))
+    let x = h .args in
+    let s = c .bare-slot .result in (
+      bare-view s Empty (c .bare-slot .ensures)
+          ∙ node-past (nodesFrom (x .heads .now) (x .ids .now) (x .shares .now) (x .minima .now)) (x .id .slot) (omega (arith, even-long (x .heads .now) (x .ids .now) (x .shares .now) (x .minima .now) (h .pre), c .before .if1 .taken)),
+      bare-whole s Empty (c .bare-slot .ensures),
+    )
 
-mul-result : tie.Need-mul-result
-mul-result c = search needs
-
-array-copy-out-result : tie.Need-array-copy-out-result
-array-copy-out-result c = search needs
+get-requires : tie.Need-get-requires
+get-requires c κs = search needs
 
 returns-2 : tie.Need-returns-2
 returns-2 c =
     let h = c .before .before in
-    let l : length (h .args .t1) ≡ 64 = search needs in
-    (node-in (h .args .t1) l (h .args .id .slot) _ (omega (arith, c .before .if1 .left)), slot-whole (h .args .t1) (h .args .id .slot) _ (omega (arith, l, c .before .if1 .left)) (h .pre))
+    let x = h .args in
+    (c .get .ensures .0, c .get .ensures .1 ∙ even-row (x .heads .now) (x .ids .now) (x .shares .now) (x .minima .now) (h .pre) (x .id .slot))
 
 pub get-node-spec : {M : Type 1} → statement M
-get-node-spec =
-    tie.close (tie.spec bare-slot-requires returns mul-result array-copy-out-result returns-2)
+get-node-spec = tie.close (tie.spec bare-slot-requires returns get-requires returns-2)

@@ -1,38 +1,33 @@
--- `nodes::slots::next_empty` passes one slot after another until one is empty. Assumes nothing.
-use mathlib.Core.Path.{_≡_, refl, sym, _∙_}
+-- `nodes::slots::next_empty` passes one head after another until one is empty. Assumes nothing.
+use mathlib.Core.Path.{_≡_, refl}
 use native.Mathlib.Omega.{arith}
-use borrow.Author.Needs.{needs}
-use mathlib.Core.List.{map}
 use Prim.Native.Nat.{_≤_, _-_}
 use lib.ListN.{length}
-use Rattle.rules.specs.Tree.{viewSlot}
-use Rattle.nodes.proofs.SlotLaws.{Passing, passing-slot-found, passing-slot-more, passing-slot-all}
+use Rattle.nodes.proofs.SlotLaws.{Heading, heading-found, heading-more, heading-all}
+use borrow.Author.Needs.{needs}
 use Rattle.nodes.proofs.slots.next_empty.Statement.{statement}
 use Rattle.nodes.proofs.slots.next_empty.Tie as tie
 
 abbrev Inv-loop : tie.InvT-loop
-Inv-loop from slots i₀ i = (s : length slots ≡ 64) × (i ≤ 64) × Passing (map viewSlot slots) from i
+Inv-loop heads from i₀ i = (size : length heads ≡ 64) × (i ≤ 64) × Heading heads size from i i
 
 abbrev μ-loop : tie.MeasureT-loop
-μ-loop from slots i₀ i = 64 - i
+μ-loop heads from i₀ i = 64 - i
 
 loop-holds : tie.Need-loop-holds Inv-loop μ-loop
-loop-holds c = (let l : length (c .args .t1) ≡ 64 = search needs in l, c .pre, refl)
+loop-holds c = (c .pre .0, c .pre .1, λ xs ss ms lx ls lm. refl)
 
-mul-s : tie.Need-mul-s Inv-loop μ-loop
-mul-s c = search needs
+mul-h : tie.Need-mul-h Inv-loop μ-loop
+mul-h c = search needs
 
-array-copy-out-s : tie.Need-array-copy-out-s Inv-loop μ-loop
-array-copy-out-s c = search needs
+element-copy-out-h : tie.Need-element-copy-out-h Inv-loop μ-loop
+element-copy-out-h c = let h = c .before in omega (arith, h .before .pre .0)
 
-is-empty-requires : tie.Need-is-empty-requires Inv-loop μ-loop
-is-empty-requires c κs = search needs
+array-read-if1 : tie.Need-array-read-if1 Inv-loop μ-loop
+array-read-if1 c = search needs
 
 returns : tie.Need-returns Inv-loop μ-loop
-returns c =
-    let h = c .before .before .before .before in
-    let v = h .loop .inv in
-    passing-slot-found (h .before .args .t1) (v .0) (h .before .args .from) (h .loop .i) _ (omega arith) (sym (c .before .is-empty .ensures) ∙ c .if1 .taken) (v .2)
+returns c = let h = c .before .before .before in heading-found (h .before .args .heads .now) (h .loop .inv .0) (h .before .args .from) (h .loop .i) (omega arith) (c .if1 .taken) (h .loop .inv .2)
 
 add-i : tie.Need-add-i Inv-loop μ-loop
 add-i c = search needs
@@ -42,15 +37,11 @@ loop-less c = search needs
 
 loop-again : tie.Need-loop-again Inv-loop μ-loop
 loop-again c =
-    let h = c .before .before .before .before in
-    let v = h .loop .inv in (
-      v .0,
-      omega arith,
-      passing-slot-more (h .before .args .t1) (v .0) (h .before .args .from) (h .loop .i) _ (omega arith) (sym (c .before .is-empty .ensures) ∙ c .if1 .left) (v .2),
-    )
+    let h = c .before .before .before in
+    (h .loop .inv .0, omega arith, heading-more (h .before .args .heads .now) (h .loop .inv .0) (h .before .args .from) (h .loop .i) (omega arith) (c .if1 .left) (h .loop .inv .2))
 
 returns-2 : tie.Need-returns-2 Inv-loop μ-loop
-returns-2 c = let h = c .before in passing-slot-all (h .before .args .t1) (h .loop .inv .0) (h .before .args .from) (h .loop .i) (omega arith) (h .loop .inv .2)
+returns-2 c = let h = c .before in heading-all (h .before .args .heads .now) (h .loop .inv .0) (h .before .args .from) (h .loop .i) (omega arith) (h .loop .inv .2)
 
 pub next-empty-spec : {M : Type 1} → statement M
 next-empty-spec =
@@ -59,9 +50,9 @@ next-empty-spec =
     Inv-loop
     μ-loop
     loop-holds
-    mul-s
-    array-copy-out-s
-    is-empty-requires
+    mul-h
+    element-copy-out-h
+    array-read-if1
     returns
     add-i
     loop-less

@@ -1,7 +1,12 @@
 -- `ops::finish::change` adds one to the revision and repairs, or refuses. Assumes nothing.
-use mathlib.Core.Path.{refl}
+use mathlib.Core.Path.{refl, sym, ap, _∙_}
+use Prim.Native.Nat.{suc, _<_}
 use native.Mathlib.Omega.{arith}
-use Rattle.ops.proofs.FinishLaws.{change-last, change-accepted, change-refused}
+use native.Mathlib.Numerals.{add-one}
+use Rattle.rules.specs.Operations.{finish, Applied, last-revision}
+use Rattle.rules.specs.declared.refusal.Refusal.the-variants.{RevisionExhausted}
+use Rattle.ops.proofs.FinishLaws.{even-plain, plain-even, comes-refused, comes-new, last-refused, change-taken, change-refused}
+use Rattle.rules.specs.Operations as Rule
 use borrow.Author.Needs.{needs}
 use Rattle.ops.proofs.finish.change.Statement.{statement}
 use Rattle.ops.proofs.finish.change.Tie as tie
@@ -13,16 +18,19 @@ returns : tie.Need-returns
 returns c =
     let h = c .before .before in
     let x = h .args in
-    change-last (x .t) (x .root) (x .slots) (x .spare) (h .pre) (c .refused .result) (c .before .if1 .taken) (c .refused .ensures)
+    λ a s e M. comes-refused a (Rule.finish a s) (c .refused .result) _ _ _ _ RevisionExhausted (last-refused (x .heads .now) (x .ids .now) (x .shares .now) (x .minima .now) (h .pre) a s (x .top) (x .spare) M (e ∙ c .before .if1 .taken)) (c .refused .ensures .0) (c .refused .ensures .1)
 
-add-t13 : tie.Need-add-t13
-add-t13 c = search needs
-
-normalize-with-report-requires : tie.Need-normalize-with-report-requires
-normalize-with-report-requires c κs = search needs
+settle-requires : tie.Need-settle-requires
+settle-requires c κs =
+    let h = c .before .before .before .before .before .before in
+    let x = h .args in
+    (even-plain (x .heads .now) (x .ids .now) (x .shares .now) (x .minima .now) (h .pre), h .pre .whole)
 
 enum-told : tie.Need-enum-told
 enum-told c = search needs
+
+add-t23 : tie.Need-add-t23
+add-t23 c = search needs
 
 enum-known-answer : tie.Need-enum-known-answer
 enum-known-answer c = search needs
@@ -32,18 +40,27 @@ refused-requires-2 c κs = search needs
 
 returns-2 : tie.Need-returns-2
 returns-2 c =
-    let n = c .before .before .before in
-    let h = n .before .before in
+    let h = c .before .before .before .before .before .before .before .before .before in
     let x = h .args in
-    change-accepted (x .t) (x .root) (x .slots) (x .spare) (h .pre) _ (omega (arith, n .before .if1 .left)) _ refl refl refl (n .normalize-with-report .result) (n .normalize-with-report .ensures) (c .before .enum-told .given .1) refl refl
+    let S = c .before .before .settle .ensures in
+    let yes = c .enum-told .given .1 in
+    let lt : x .revision < last-revision = omega (arith, c .before .before .before .before .before .before .before .before .if1 .left) in
+    λ a s e M.
+    let k = S .right (suc (a .revision)) (M .change .free) (M .inside) (M .first) in
+    let F = change-taken (x .heads .now) (x .ids .now) (x .shares .now) (x .minima .now) (h .pre) a s (x .top) (x .spare) M (omega (arith, lt, e)) (sym (k .answer) ∙ yes) in
+    comes-new a (Rule.finish a s) _ _ _ _ _ (ap (λ (y : Applied). y .answer) F) refl refl
+    (suc (a .revision)) (ap (λ (y : Applied). y .tree) F ∙ k .tree yes) (ap suc e ∙ sym (add-one (x .revision)))
+    (plain-even _ _ _ _ (S .left .plain yes) (S .left .whole yes))
 
 returns-3 : tie.Need-returns-3
 returns-3 c =
-    let e = c .before .before in
-    let n = e .before .before in
-    let h = n .before .before in
+    let h = c .before .before .before .before .before .before .before .before .before .before .before in
     let x = h .args in
-    change-refused (x .t) (x .root) (x .slots) (x .spare) (h .pre) (c .refused2 .result) (omega (arith, n .before .if1 .left)) _ refl refl refl (n .normalize-with-report .result) (n .normalize-with-report .ensures) _ (e .answer .given .1) (c .refused2 .ensures)
+    let S = c .before .before .before .before .settle .ensures in
+    let lt : x .revision < last-revision = omega (arith, c .before .before .before .before .before .before .before .before .before .before .if1 .left) in
+    λ a s e M.
+    let k = S .right (suc (a .revision)) (M .change .free) (M .inside) (M .first) in
+    comes-refused a (Rule.finish a s) (c .refused2 .result) _ _ _ _ _ (change-refused (x .heads .now) (x .ids .now) (x .shares .now) (x .minima .now) (h .pre) a s (x .top) (x .spare) M (omega (arith, lt, e)) _ (sym (k .answer) ∙ c .before .before .answer .given .1)) (c .refused2 .ensures .0) (c .refused2 .ensures .1)
 
 pub change-spec : {M : Type 1} → statement M
 change-spec =
@@ -51,9 +68,9 @@ change-spec =
     (tie.spec
     refused-requires
     returns
-    add-t13
-    normalize-with-report-requires
+    settle-requires
     enum-told
+    add-t23
     enum-known-answer
     refused-requires-2
     returns-2

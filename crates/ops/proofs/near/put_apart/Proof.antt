@@ -1,53 +1,46 @@
 -- `ops::near::put_apart` goes by whether the target is the root, and by what holds it. Assumes nothing.
-use mathlib.Core.Path.{_≡_, ap, subst}
-use borrow.Author.Tests.{eq-eqb, ne-eqb}
-use mathlib.Core.List.{map}
-use mathlib.Core.Bool.{false}
+use mathlib.Core.Path.{ap}
 use Rattle.rules.specs.Tree.{viewSlot}
-use Rattle.rules.specs.Insert.{sameAxisParent}
+use Rattle.columns.specs.Columns.{nodesFrom}
 use Rattle.nodes.specs.Parts.{holderOf}
-use Rattle.ops.specs.Steps.{Nears}
-use Rattle.nodes.specs.declared.Holder.{Holder}
-use Rattle.ops.proofs.NearLaws.{put-loose}
+use Rattle.ops.proofs.NearLaws.{put-loose, put-rooted, put-unders}
 use borrow.Author.Needs.{needs}
 use Rattle.ops.proofs.near.put_apart.Statement.{statement}
 use Rattle.ops.proofs.near.put_apart.Tie as tie
 
 put-over-requires : tie.Need-put-over-requires
-put-over-requires c κs =
-    let h = c .before .before .before .before .before in
-    (holderOf (h .args .parent), h .pre .0, eq-eqb _ _ (c .if1 .taken), h .pre .1)
+put-over-requires c κs = search needs
 
 returns : tie.Need-returns
-returns c = search needs
+returns c =
+    let h = c .before .before .before .before .before .before .before .before in
+    let x = h .args in
+    record { even = c .put-over .ensures .even; steps = λ a W. c .put-over .ensures .steps a (put-rooted (x .root) (x .room) (nodesFrom (x .heads .now) (x .ids .now) (x .shares .now) (x .minima .now)) (viewSlot (x .new)) (x .b) a (holderOf (x .parent)) (W .0) (W .1) (c .before .before .before .before .before .if1 .taken)) }
 
 enum-told : tie.Need-enum-told
 enum-told c = search needs
-
-refused-requires : tie.Need-refused-requires
-refused-requires c κs = search needs
 
 enum-known-parent : tie.Need-enum-known-parent
 enum-known-parent c = search needs
 
 put-under-requires : tie.Need-put-under-requires
 put-under-requires c κs =
-    let e = c .before in
-    let i = e .before .before in
-    let h = i .before .before .before .before .before in
+    let h = c .before .before .before .before .before .before .before .before .before .before in
     let x = h .args in
-    (subst (λ (p : Holder). Nears (x .t) (x .out) (x .new) (x .b) (holderOf p)) (e .parent .given .1) (h .pre .0), ne-eqb _ _ (i .if1 .left), subst (λ (p : Holder). sameAxisParent (x .b .axis) (holderOf p) (map viewSlot (x .t .slots)) ≡ false) (e .parent .given .1) (h .pre .1))
+    let (a, W) = h .pre .2 in
+    (h .pre .0, h .pre .1, (a, put-unders (x .root) (x .room) (nodesFrom (x .heads .now) (x .ids .now) (x .shares .now) (x .minima .now)) (viewSlot (x .new)) (x .b) a (holderOf (x .parent)) (W .0) _ _ (ap holderOf (c .before .before .before .before .before .parent .given .1)) (W .1) (c .before .before .before .before .before .before .before .if1 .left)))
 
 returns-2 : tie.Need-returns-2
 returns-2 c =
-    let t = c .before in
-    let i = t .before .before in
-    let h = i .before .before .before .before .before in
+    let h = c .before .before .before .before .before in
     let x = h .args in
-    put-loose (x .t) (x .out) (x .new) (x .b) (holderOf (x .parent)) (h .pre .0) (c .refused .result) (ne-eqb _ _ (i .if1 .left)) (ap holderOf (t .enum-told .given .1)) (c .refused .ensures)
+    record { even = h .pre .0; steps = λ a W. put-loose (x .root) (x .room) (nodesFrom (x .heads .now) (x .ids .now) (x .shares .now) (x .minima .now)) (viewSlot (x .new)) (x .b) a (holderOf (x .parent)) (W .0) (c .before .before .if1 .left) (ap holderOf (c .enum-told .given .1)) }
 
 returns-3 : tie.Need-returns-3
-returns-3 c = search needs
+returns-3 c =
+    let h = c .before .before .before .before .before .before .before .before .before .before .before in
+    let x = h .args in
+    record { even = c .put-under .ensures .even; steps = λ a W. c .put-under .ensures .steps a (put-unders (x .root) (x .room) (nodesFrom (x .heads .now) (x .ids .now) (x .shares .now) (x .minima .now)) (viewSlot (x .new)) (x .b) a (holderOf (x .parent)) (W .0) _ _ (ap holderOf (c .before .before .before .before .before .before .parent .given .1)) (W .1) (c .before .before .before .before .before .before .before .before .if1 .left)) }
 
 pub put-apart-spec : {M : Type 1} → statement M
 put-apart-spec =
@@ -56,7 +49,6 @@ put-apart-spec =
     put-over-requires
     returns
     enum-told
-    refused-requires
     enum-known-parent
     put-under-requires
     returns-2

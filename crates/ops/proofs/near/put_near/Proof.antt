@@ -1,14 +1,13 @@
 -- `ops::near::put_near` goes by the target, by what holds it, and by the axis. Assumes nothing.
-use mathlib.Core.Path.{sym, ap, subst, _∙_}
-use mathlib.Core.List.{map}
+use mathlib.Core.Path.{sym, ap, _∙_}
 use borrow.Author.Tests.{not-true, not-false}
 use Rattle.rules.specs.Tree.{viewSlot, isEmpty}
 use Rattle.rules.specs.Insert.{sameAxisParent}
 use Rattle.forest.specs.Lists.{never}
+use Rattle.columns.specs.Columns.{nodesFrom}
 use Rattle.nodes.specs.Parts.{holderOf}
-use Rattle.ops.specs.Steps.{Nears}
 use Rattle.nodes.specs.declared.Holder.{Holder}
-use Rattle.ops.proofs.NearLaws.{put-absent}
+use Rattle.ops.proofs.NearLaws.{put-absent, put-nears, put-axis, put-within}
 use borrow.Author.Needs.{needs}
 use Rattle.ops.proofs.near.put_near.Statement.{statement}
 use Rattle.ops.proofs.near.put_near.Tie as tie
@@ -19,16 +18,11 @@ get-node-requires c κs = search needs
 is-empty-requires : tie.Need-is-empty-requires
 is-empty-requires c κs = search needs
 
-refused-requires : tie.Need-refused-requires
-refused-requires c κs = search needs
-
 returns : tie.Need-returns
 returns c =
-    let e = c .before .before in
-    let g = e .before in
-    let h = g .before .before .before in
+    let h = c .before .before .before .before .before .before .before .before in
     let x = h .args in
-    put-absent (x .t) (x .out) (x .new) (x .b) (h .pre) (c .refused .result) (ap isEmpty (sym (g .get-node .ensures .0)) ∙ sym (e .is-empty .ensures) ∙ c .before .if1 .taken) (c .refused .ensures)
+    record { even = h .pre .0; steps = λ a F. put-absent (x .root) (x .room) (nodesFrom (x .heads .now) (x .ids .now) (x .shares .now) (x .minima .now)) (viewSlot (x .new)) (x .b) a F (ap isEmpty (sym (c .before .before .get-node .ensures .0)) ∙ sym (c .before .is-empty .ensures) ∙ c .if1 .taken) }
 
 find-parent-requires : tie.Need-find-parent-requires
 find-parent-requires c κs = search needs
@@ -38,47 +32,50 @@ same-axis-parent-requires c κs = search needs
 
 put-apart-requires : tie.Need-put-apart-requires
 put-apart-requires c κs =
-    let p = c .before .before in
-    let i = p .before in
-    let e = i .before in
-    let g = e .before in
-    let h = g .before .before .before in
-    (record { fits = h .pre; there = ap isEmpty (sym (g .get-node .ensures .0)) ∙ sym (e .is-empty .ensures) ∙ i .if1 .left; holder = p .find-parent .ensures }, sym (c .before .same-axis-parent .ensures) ∙ not-true (c .before .same-axis-parent .result) (c .if2 .taken))
+    let h = c .before .before .before .before .before .before .before .before .before .before .before .before .before .before .before .before .before .before .before .before .before in
+    let x = h .args in
+    let (a, F) = h .pre .2 in
+    (h .pre .0, h .pre .1, (a, ((put-nears (x .root) (x .room) (nodesFrom (x .heads .now) (x .ids .now) (x .shares .now) (x .minima .now)) (viewSlot (x .new)) (x .b) a F (holderOf (c .before .before .before .before .before .before .before .before .before .before .find-parent .result)) (ap isEmpty (sym (c .before .before .before .before .before .before .before .before .before .before .before .before .before .before .before .get-node .ensures .0)) ∙ sym (c .before .before .before .before .before .before .before .before .before .before .before .before .before .before .is-empty .ensures) ∙ c .before .before .before .before .before .before .before .before .before .before .before .before .before .if1 .left) (c .before .before .before .before .before .before .before .before .before .before .find-parent .ensures (x .shares .now) (x .minima .now) (h .pre .0 .shares) (h .pre .0 .minima))), sym (put-axis (x .root) (x .room) (nodesFrom (x .heads .now) (x .ids .now) (x .shares .now) (x .minima .now)) (viewSlot (x .new)) (x .b) a F (x .b .axis) (holderOf (c .before .before .before .before .before .before .before .before .before .before .find-parent .result)) (c .before .before .before .before .before .same-axis-parent .result) (c .before .before .before .before .before .same-axis-parent .ensures)) ∙ not-true (c .before .before .before .before .before .same-axis-parent .result) (c .before .before .before .before .if2 .taken))))
 
 returns-2 : tie.Need-returns-2
-returns-2 c = search needs
+returns-2 c =
+    let h = c .before .before .before .before .before .before .before .before .before .before .before .before .before .before .before .before .before .before .before .before .before .before in
+    let x = h .args in
+    record {
+      even = c .put-apart .ensures .even;
+      steps = λ a F. c .put-apart .ensures .steps a ((put-nears (x .root) (x .room) (nodesFrom (x .heads .now) (x .ids .now) (x .shares .now) (x .minima .now)) (viewSlot (x .new)) (x .b) a F (holderOf (c .before .before .before .before .before .before .before .before .before .before .before .find-parent .result)) (ap isEmpty (sym (c .before .before .before .before .before .before .before .before .before .before .before .before .before .before .before .before .get-node .ensures .0)) ∙ sym (c .before .before .before .before .before .before .before .before .before .before .before .before .before .before .before .is-empty .ensures) ∙ c .before .before .before .before .before .before .before .before .before .before .before .before .before .before .if1 .left) (c .before .before .before .before .before .before .before .before .before .before .before .find-parent .ensures (x .shares .now) (x .minima .now) (h .pre .0 .shares) (h .pre .0 .minima))), sym (put-axis (x .root) (x .room) (nodesFrom (x .heads .now) (x .ids .now) (x .shares .now) (x .minima .now)) (viewSlot (x .new)) (x .b) a F (x .b .axis) (holderOf (c .before .before .before .before .before .before .before .before .before .before .before .find-parent .result)) (c .before .before .before .before .before .before .same-axis-parent .result) (c .before .before .before .before .before .before .same-axis-parent .ensures)) ∙ not-true (c .before .before .before .before .before .before .same-axis-parent .result) (c .before .before .before .before .before .if2 .taken));
+    }
 
 enum-told : tie.Need-enum-told
 enum-told c = search needs
-
-refused-requires-2 : tie.Need-refused-requires-2
-refused-requires-2 c κs = search needs
 
 enum-known-parent : tie.Need-enum-known-parent
 enum-known-parent c = search needs
 
 put-in-requires : tie.Need-put-in-requires
 put-in-requires c κs =
-    let k = c .before in
-    let a = k .before .before .before in
-    let p = a .before in
-    let i = p .before in
-    let e = i .before in
-    let g = e .before in
-    let h = g .before .before .before in
+    let h = c .before .before .before .before .before .before .before .before .before .before .before .before .before .before .before .before .before .before .before .before .before .before .before .before in
     let x = h .args in
-    let N : Nears (x .t) (x .out) (x .new) (x .b) (holderOf (p .find-parent .result)) = record { fits = h .pre; there = ap isEmpty (sym (g .get-node .ensures .0)) ∙ sym (e .is-empty .ensures) ∙ i .if1 .left; holder = p .find-parent .ensures } in
-    (subst (λ (q : Holder). Nears (x .t) (x .out) (x .new) (x .b) (holderOf q)) (k .parent .given .1) N, ap (λ (q : Holder). sameAxisParent (x .b .axis) (holderOf q) (map viewSlot (x .t .slots))) (sym (k .parent .given .1)) ∙ sym (a .same-axis-parent .ensures) ∙ not-false (a .same-axis-parent .result) (k .before .before .if2 .left))
+    let (a, F) = h .pre .2 in
+    (h .pre .0, h .pre .1, (a, put-within (x .root) (x .room) (nodesFrom (x .heads .now) (x .ids .now) (x .shares .now) (x .minima .now)) (viewSlot (x .new)) (x .b) a (holderOf (c .before .before .before .before .before .before .before .before .before .before .before .before .before .find-parent .result)) (put-nears (x .root) (x .room) (nodesFrom (x .heads .now) (x .ids .now) (x .shares .now) (x .minima .now)) (viewSlot (x .new)) (x .b) a F (holderOf (c .before .before .before .before .before .before .before .before .before .before .before .before .before .find-parent .result)) (ap isEmpty (sym (c .before .before .before .before .before .before .before .before .before .before .before .before .before .before .before .before .before .before .get-node .ensures .0)) ∙ sym (c .before .before .before .before .before .before .before .before .before .before .before .before .before .before .before .before .before .is-empty .ensures) ∙ c .before .before .before .before .before .before .before .before .before .before .before .before .before .before .before .before .if1 .left) (c .before .before .before .before .before .before .before .before .before .before .before .before .before .find-parent .ensures (x .shares .now) (x .minima .now) (h .pre .0 .shares) (h .pre .0 .minima))) _ _ (ap holderOf (c .before .before .before .before .before .parent .given .1)) (sym (put-axis (x .root) (x .room) (nodesFrom (x .heads .now) (x .ids .now) (x .shares .now) (x .minima .now)) (viewSlot (x .new)) (x .b) a F (x .b .axis) (holderOf (c .before .before .before .before .before .before .before .before .before .before .before .before .before .find-parent .result)) (c .before .before .before .before .before .before .before .before .same-axis-parent .result) (c .before .before .before .before .before .before .before .before .same-axis-parent .ensures)) ∙ not-false (c .before .before .before .before .before .before .before .before .same-axis-parent .result) (c .before .before .before .before .before .before .before .if2 .left))))
 
 returns-3 : tie.Need-returns-3
 returns-3 c =
-    let k = c .before in
-    let a = k .before .before .before in
-    let x = a .before .before .before .before .before .before .before .args in
-    never (sym (not-false (a .same-axis-parent .result) (k .before .before .if2 .left)) ∙ a .same-axis-parent .ensures ∙ ap (λ (q : Holder). sameAxisParent (x .b .axis) (holderOf q) (map viewSlot (x .t .slots))) (k .enum-told .given .1))
+    let h = c .before .before .before .before .before .before .before .before .before .before .before .before .before .before .before .before .before .before .before in
+    let x = h .args in
+    record {
+      even = h .pre .0;
+      steps = λ a F. never (sym (not-false (c .before .before .before .same-axis-parent .result) (c .before .before .if2 .left)) ∙ c .before .before .before .same-axis-parent .ensures ∙ ap (λ (q : Holder). sameAxisParent (x .b .axis) (holderOf q) (nodesFrom (x .heads .now) (x .ids .now) (x .shares .now) (x .minima .now))) (c .enum-told .given .1));
+    }
 
 returns-4 : tie.Need-returns-4
-returns-4 c = search needs
+returns-4 c =
+    let h = c .before .before .before .before .before .before .before .before .before .before .before .before .before .before .before .before .before .before .before .before .before .before .before .before .before in
+    let x = h .args in
+    record {
+      even = c .put-in .ensures .even;
+      steps = λ a F. c .put-in .ensures .steps a (put-within (x .root) (x .room) (nodesFrom (x .heads .now) (x .ids .now) (x .shares .now) (x .minima .now)) (viewSlot (x .new)) (x .b) a (holderOf (c .before .before .before .before .before .before .before .before .before .before .before .before .before .before .find-parent .result)) (put-nears (x .root) (x .room) (nodesFrom (x .heads .now) (x .ids .now) (x .shares .now) (x .minima .now)) (viewSlot (x .new)) (x .b) a F (holderOf (c .before .before .before .before .before .before .before .before .before .before .before .before .before .before .find-parent .result)) (ap isEmpty (sym (c .before .before .before .before .before .before .before .before .before .before .before .before .before .before .before .before .before .before .before .get-node .ensures .0)) ∙ sym (c .before .before .before .before .before .before .before .before .before .before .before .before .before .before .before .before .before .before .is-empty .ensures) ∙ c .before .before .before .before .before .before .before .before .before .before .before .before .before .before .before .before .before .if1 .left) (c .before .before .before .before .before .before .before .before .before .before .before .before .before .before .find-parent .ensures (x .shares .now) (x .minima .now) (h .pre .0 .shares) (h .pre .0 .minima))) _ _ (ap holderOf (c .before .before .before .before .before .before .parent .given .1)) (sym (put-axis (x .root) (x .room) (nodesFrom (x .heads .now) (x .ids .now) (x .shares .now) (x .minima .now)) (viewSlot (x .new)) (x .b) a F (x .b .axis) (holderOf (c .before .before .before .before .before .before .before .before .before .before .before .before .before .before .find-parent .result)) (c .before .before .before .before .before .before .before .before .before .same-axis-parent .result) (c .before .before .before .before .before .before .before .before .before .same-axis-parent .ensures)) ∙ not-false (c .before .before .before .before .before .before .before .before .before .same-axis-parent .result) (c .before .before .before .before .before .before .before .before .if2 .left)));
+    }
 
 pub put-near-spec : {M : Type 1} → statement M
 put-near-spec =
@@ -86,14 +83,12 @@ put-near-spec =
     (tie.spec
     get-node-requires
     is-empty-requires
-    refused-requires
     returns
     find-parent-requires
     same-axis-parent-requires
     put-apart-requires
     returns-2
     enum-told
-    refused-requires-2
     enum-known-parent
     put-in-requires
     returns-3

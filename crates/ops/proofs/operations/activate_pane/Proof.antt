@@ -1,12 +1,11 @@
 -- `ops::operations::activate_pane` goes by where the pane stands. Assumes nothing.
-use mathlib.Core.Path.{ap}
-use Rattle.rules.specs.Tree.{view}
-use Rattle.rules.specs.Operations as Rule
+use mathlib.Core.Path.{refl, ap}
 use Rattle.rules.specs.Target.{PaneLocation}
-use Rattle.nodes.specs.Parts.{locationOf}
 use Rattle.rules.specs.declared.refusal.Refusal.the-variants.{InvalidPaneId}
-use Rattle.ops.proofs.FinishLaws.{does-refused, does-like}
-use Rattle.ops.proofs.OpLaws.{located-step}
+use Rattle.repair.specs.Whole.{arenaFrom}
+use Rattle.nodes.specs.Parts.{locationOf}
+use Rattle.ops.proofs.OpLaws.{steps-like, refused-as, located-step}
+use Rattle.rules.specs.Operations as Rule
 use borrow.Author.Needs.{needs}
 use Rattle.ops.proofs.operations.activate_pane.Statement.{statement}
 use Rattle.ops.proofs.operations.activate_pane.Tie as tie
@@ -17,14 +16,8 @@ find-pane-requires c κs = search needs
 enum-told : tie.Need-enum-told
 enum-told c = search needs
 
-refused-requires : tie.Need-refused-requires
-refused-requires c κs = search needs
-
 enum-told-2 : tie.Need-enum-told-2
 enum-told-2 c = search needs
-
-unchanged-requires : tie.Need-unchanged-requires
-unchanged-requires c κs = search needs
 
 enum-known-l : tie.Need-enum-known-l
 enum-known-l c = search needs
@@ -34,30 +27,24 @@ activate-in-requires c κs = search needs
 
 returns : tie.Need-returns
 returns c =
-    let t = c .before in
-    let f = t .before .before in
-    let h = f .before .before in
+    let h = c .before .before .before .before .before in
     let x = h .args in
-    does-refused (x .t) (Rule.activatePane (view (x .t)) (x .pane)) InvalidPaneId (c .refused .result) (c .refused .ensures)
-    (located-step (x .t) (h .pre) (x .pane) (locationOf (f .find-pane .result)) (f .find-pane .ensures) (λ (l : PaneLocation). Rule.activateAt l (view (x .t))) _ (ap locationOf (t .enum-told .given .1)))
+    record { even = h .pre .0; steps = λ v. refused-as (arenaFrom (x .root) v (x .heads .now) (x .ids .now) (x .shares .now) (x .minima .now)) (Rule.activatePane (arenaFrom (x .root) v (x .heads .now) (x .ids .now) (x .shares .now) (x .minima .now)) (x .pane)) InvalidPaneId (located-step (arenaFrom (x .root) v (x .heads .now) (x .ids .now) (x .shares .now) (x .minima .now)) (h .pre .1) (x .pane) (locationOf (c .before .before .find-pane .result)) (c .before .before .find-pane .ensures (x .shares .now) (x .minima .now) (h .pre .0 .shares) (h .pre .0 .minima)) (λ (m : PaneLocation). Rule.activateAt m (arenaFrom (x .root) v (x .heads .now) (x .ids .now) (x .shares .now) (x .minima .now))) _ (ap locationOf (c .enum-told .given .1))) }
 
 returns-2 : tie.Need-returns-2
 returns-2 c =
-    let t = c .before in
-    let f = t .before .before in
-    let h = f .before .before in
+    let h = c .before .before .before .before .before in
     let x = h .args in
-    does-like (x .t) (Rule.activatePane (view (x .t)) (x .pane)) Rule.unchanged (c .unchanged .result) (c .unchanged .ensures)
-    (located-step (x .t) (h .pre) (x .pane) (locationOf (f .find-pane .result)) (f .find-pane .ensures) (λ (l : PaneLocation). Rule.activateAt l (view (x .t))) _ (ap locationOf (t .enum-told2 .given .1)))
+    record { even = h .pre .0; steps = λ v. ((located-step (arenaFrom (x .root) v (x .heads .now) (x .ids .now) (x .shares .now) (x .minima .now)) (h .pre .1) (x .pane) (locationOf (c .before .before .find-pane .result)) (c .before .before .find-pane .ensures (x .shares .now) (x .minima .now) (h .pre .0 .shares) (h .pre .0 .minima)) (λ (m : PaneLocation). Rule.activateAt m (arenaFrom (x .root) v (x .heads .now) (x .ids .now) (x .shares .now) (x .minima .now))) _ (ap locationOf (c .enum-told2 .given .1))), refl) }
 
 returns-3 : tie.Need-returns-3
 returns-3 c =
-    let t = c .before .before in
-    let f = t .before .before in
-    let h = f .before .before in
+    let h = c .before .before .before .before .before .before .before .before .before .before .before in
     let x = h .args in
-    does-like (x .t) (Rule.activatePane (view (x .t)) (x .pane)) _ (c .activate-in .result) (c .activate-in .ensures)
-    (located-step (x .t) (h .pre) (x .pane) (locationOf (f .find-pane .result)) (f .find-pane .ensures) (λ (l : PaneLocation). Rule.activateAt l (view (x .t))) _ (ap locationOf (t .l .given .1)))
+    record {
+      even = c .activate-in .ensures .even;
+      steps = λ v. steps-like (arenaFrom (x .root) v (x .heads .now) (x .ids .now) (x .shares .now) (x .minima .now)) (Rule.activatePane (arenaFrom (x .root) v (x .heads .now) (x .ids .now) (x .shares .now) (x .minima .now)) (x .pane)) _ (c .activate-in .result) _ (located-step (arenaFrom (x .root) v (x .heads .now) (x .ids .now) (x .shares .now) (x .minima .now)) (h .pre .1) (x .pane) (locationOf (c .before .before .before .before .before .before .before .before .find-pane .result)) (c .before .before .before .before .before .before .before .before .find-pane .ensures (x .shares .now) (x .minima .now) (h .pre .0 .shares) (h .pre .0 .minima)) (λ (m : PaneLocation). Rule.activateAt m (arenaFrom (x .root) v (x .heads .now) (x .ids .now) (x .shares .now) (x .minima .now))) _ (ap locationOf (c .before .before .before .before .before .before .l .given .1))) (c .activate-in .ensures .steps v);
+    }
 
 pub activate-pane-spec : {M : Type 1} → statement M
 activate-pane-spec =
@@ -65,9 +52,7 @@ activate-pane-spec =
     (tie.spec
     find-pane-requires
     enum-told
-    refused-requires
     enum-told-2
-    unchanged-requires
     enum-known-l
     activate-in-requires
     returns

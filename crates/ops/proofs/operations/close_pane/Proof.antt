@@ -1,19 +1,15 @@
--- `ops::operations::close_pane` refuses an absent pane, and takes out any other. Assumes nothing.
+-- `ops::operations::close_pane` refuses a pane that is nowhere, or takes it out. Assumes nothing.
 use mathlib.Core.Path.{sym, _∙_}
-use Rattle.rules.specs.Tree.{view}
-use Rattle.rules.specs.Operations as Rule
-use Rattle.rules.specs.Target.{PaneLocation}
-use Rattle.nodes.specs.Parts.{locationOf}
 use borrow.Author.Tests.{not-true, not-false}
+use Rattle.rules.specs.Target.{PaneLocation}
 use Rattle.rules.specs.declared.refusal.Refusal.the-variants.{InvalidPaneId}
-use Rattle.ops.proofs.FinishLaws.{does-refused}
-use Rattle.ops.proofs.OpLaws.{located-nowhere, stands, close-goes}
+use Rattle.repair.specs.Whole.{arenaFrom}
+use Rattle.nodes.specs.Parts.{locationOf}
+use Rattle.ops.proofs.OpLaws.{refused-as, located-nowhere, stands, close-goes}
+use Rattle.rules.specs.Operations as Rule
 use borrow.Author.Needs.{needs}
 use Rattle.ops.proofs.operations.close_pane.Statement.{statement}
 use Rattle.ops.proofs.operations.close_pane.Tie as tie
-
-sized-requires : tie.Need-sized-requires
-sized-requires c κs = search needs
 
 find-pane-requires : tie.Need-find-pane-requires
 find-pane-requires c κs = search needs
@@ -21,52 +17,34 @@ find-pane-requires c κs = search needs
 is-somewhere-requires : tie.Need-is-somewhere-requires
 is-somewhere-requires c κs = search needs
 
-refused-requires : tie.Need-refused-requires
-refused-requires c κs = search needs
-
 returns : tie.Need-returns
 returns c =
-    let s = c .before .before in
-    let f = s .before in
-    let h = f .before .before .before .before in
+    let h = c .before .before .before .before .before in
     let x = h .args in
-    does-refused (x .t) (Rule.closePane (view (x .t)) (x .pane)) InvalidPaneId (c .refused .result) (c .refused .ensures)
-    (located-nowhere (x .t) (h .pre) (x .pane) (locationOf (f .find-pane .result)) (f .find-pane .ensures) (λ (l : PaneLocation). Rule.closeAt l (view (x .t))) (sym (s .is-somewhere .ensures) ∙ not-true (s .is-somewhere .result) (c .before .if1 .taken)))
-
-remove-pane-requires : tie.Need-remove-pane-requires
-remove-pane-requires c κs =
-    let f = c .before .before in
-    let h = f .before .before .before .before in
-    let x = h .args in
-    (h .pre .whole, stands (x .t) (h .pre) (x .pane) (locationOf (f .find-pane .result)) (f .find-pane .ensures))
+    record { even = h .pre .0; steps = λ v. refused-as (arenaFrom (x .root) v (x .heads .now) (x .ids .now) (x .shares .now) (x .minima .now)) (Rule.closePane (arenaFrom (x .root) v (x .heads .now) (x .ids .now) (x .shares .now) (x .minima .now)) (x .pane)) InvalidPaneId (located-nowhere (arenaFrom (x .root) v (x .heads .now) (x .ids .now) (x .shares .now) (x .minima .now)) (h .pre .1) (x .pane) (locationOf (c .before .before .find-pane .result)) (c .before .before .find-pane .ensures (x .shares .now) (x .minima .now) (h .pre .0 .shares) (h .pre .0 .minima)) (λ (m : PaneLocation). Rule.closeAt m (arenaFrom (x .root) v (x .heads .now) (x .ids .now) (x .shares .now) (x .minima .now))) (sym (c .before .is-somewhere .ensures) ∙ not-true (c .before .is-somewhere .result) (c .if1 .taken))) }
 
 first-empty-requires : tie.Need-first-empty-requires
 first-empty-requires c κs = search needs
 
-change-requires : tie.Need-change-requires
-change-requires c κs = search needs
+remove-pane-requires : tie.Need-remove-pane-requires
+remove-pane-requires c κs =
+    let h = c .before .before .before .before .before .before .before .before .before .before .before in
+    let x = h .args in
+    (h .pre .0, stands (arenaFrom (x .root) 0 (x .heads .now) (x .ids .now) (x .shares .now) (x .minima .now)) (h .pre .1) (x .pane) (locationOf (c .before .before .before .before .before .before .before .before .find-pane .result)) (c .before .before .before .before .before .before .before .before .find-pane .ensures (x .shares .now) (x .minima .now) (h .pre .0 .shares) (h .pre .0 .minima)))
 
 returns-2 : tie.Need-returns-2
 returns-2 c =
-    let e = c .before in
-    let o = e .before in
-    let i = o .before in
-    let s = i .before in
-    let f = s .before in
-    let h = f .before .before .before .before in
+    let h = c .before .before .before .before .before .before .before .before .before .before .before .before in
     let x = h .args in
-    close-goes (x .t) (h .pre) (x .pane) (locationOf (f .find-pane .result)) (f .find-pane .ensures) (o .remove-pane .result) (e .first-empty .result) (c .change .result) (sym (s .is-somewhere .ensures) ∙ not-false (s .is-somewhere .result) (i .if1 .left)) (o .remove-pane .ensures .0) (e .first-empty .ensures) (c .change .ensures)
+    record { even = c .remove-pane .ensures .1; steps = λ v. close-goes (arenaFrom (x .root) v (x .heads .now) (x .ids .now) (x .shares .now) (x .minima .now)) (h .pre .1) (x .pane) (locationOf (c .before .before .before .before .before .before .before .before .before .find-pane .result)) (c .before .before .before .before .before .before .before .before .before .find-pane .ensures (x .shares .now) (x .minima .now) (h .pre .0 .shares) (h .pre .0 .minima)) _ (c .before .before .before .before .before .first-empty .result) (sym (c .before .before .before .before .before .before .before .before .is-somewhere .ensures) ∙ not-false (c .before .before .before .before .before .before .before .before .is-somewhere .result) (c .before .before .before .before .before .before .before .if1 .left)) (c .remove-pane .ensures .0) (c .before .before .before .before .before .first-empty .ensures (x .ids .now) (x .shares .now) (x .minima .now) (h .pre .0 .ids) (h .pre .0 .shares) (h .pre .0 .minima)) }
 
 pub close-pane-spec : {M : Type 1} → statement M
 close-pane-spec =
     tie.close
     (tie.spec
-    sized-requires
     find-pane-requires
     is-somewhere-requires
-    refused-requires
     returns
-    remove-pane-requires
     first-empty-requires
-    change-requires
+    remove-pane-requires
     returns-2)

@@ -1,16 +1,15 @@
 -- `ops::operations::insert_tile_at_target` goes by the target. Assumes nothing.
 use mathlib.Core.Path.{refl, sym, ap, _∙_}
-use mathlib.Core.List.{[], _∷_, map}
-use Rattle.rules.specs.Tree.{Node, view, viewSlot}
-use Rattle.rules.specs.Operations as Rule
-use Rattle.rules.specs.declared.operation.DockTarget.{DockTarget}
-use Rattle.rules.specs.Tree.{pane, tabs}
+use mathlib.Core.List.{[], _∷_}
+use Rattle.rules.specs.Tree.{Node, viewSlot, pane, tabs}
 use Rattle.rules.specs.Insert.{draft, beside}
+use Rattle.rules.specs.declared.operation.DockTarget.{DockTarget}
 use Rattle.rules.specs.declared.model.Axis.the-variants.{Horizontal}
 use Rattle.rules.specs.declared.model.Placement.the-variants.{After}
 use Rattle.rules.specs.declared.model.TabBarPlacement.the-variants.{Top}
-use Rattle.ops.proofs.FinishLaws.{does-like}
-use Rattle.ops.proofs.OpLaws.{fits-new, a-half}
+use Rattle.columns.specs.Columns.{nodesFrom}
+use Rattle.ops.proofs.OpLaws.{steps-like, fits-new, root-target, a-half}
+use Rattle.rules.specs.Operations as Rule
 use borrow.Author.Needs.{needs}
 use Rattle.ops.proofs.operations.insert_tile_at_target.Statement.{statement}
 use Rattle.ops.proofs.operations.insert_tile_at_target.Tie as tie
@@ -23,9 +22,10 @@ top-group-requires c κs = search needs
 
 put-near-requires : tie.Need-put-near-requires
 put-near-requires c κs =
-    let h = c .before .before .before .before in
+    let h = c .before .before .before .before .before .before .before in
     let x = h .args in
-    fits-new (x .t) (x .out) (c .top-group .result) (tabs Top 0 (x .pane ∷ [])) (h .pre) (c .top-group .ensures .0) refl (c .top-group .ensures .1)
+    let (a, T) = h .pre .1 in
+    (h .pre .0, c .before .before .before .before .top-group .ensures .1, (a, (fits-new (x .root) (x .room) (nodesFrom (x .heads .now) (x .ids .now) (x .shares .now) (x .minima .now)) (viewSlot (c .before .before .before .before .top-group .result)) (tabs Top 0 (x .pane ∷ [])) a (c .before .before .before .before .top-group .ensures .0) refl T)))
 
 enum-known-target : tie.Need-enum-known-target
 enum-known-target c = search needs
@@ -35,9 +35,10 @@ pane-slot-requires c κs = search needs
 
 put-near-requires-2 : tie.Need-put-near-requires-2
 put-near-requires-2 c κs =
-    let h = c .before .before .before .before in
+    let h = c .before .before .before .before .before .before .before .before in
     let x = h .args in
-    fits-new (x .t) (x .out) (c .pane-slot .result) (pane (x .pane)) (h .pre) (c .pane-slot .ensures .0) refl (c .pane-slot .ensures .1)
+    let (a, T) = h .pre .1 in
+    (h .pre .0, c .before .before .before .before .pane-slot .ensures .1, (a, (fits-new (x .root) (x .room) (nodesFrom (x .heads .now) (x .ids .now) (x .shares .now) (x .minima .now)) (viewSlot (c .before .before .before .before .pane-slot .result)) (pane (x .pane)) a (c .before .before .before .before .pane-slot .ensures .0) refl T)))
 
 enum-known-target-2 : tie.Need-enum-known-target-2
 enum-known-target-2 c = search needs
@@ -47,26 +48,33 @@ tab-into-requires c κs = search needs
 
 returns : tie.Need-returns
 returns c =
-    let g = c .before in
-    let k = g .before .before in
-    let x = k .before .before .args in
-    does-like (x .t) (Rule.insertTileAtTarget (view (x .t)) (x .pane) (x .target) (draft (x .t .root) (map viewSlot (x .out)))) _ (c .put-near .result) (c .put-near .ensures)
-    (ap (λ (d : DockTarget). Rule.insertTileAtTarget (view (x .t)) (x .pane) d (draft (x .t .root) (map viewSlot (x .out)))) (k .enum-told .given .1) ∙ (λ z. Rule.putNear (view (x .t)) (sym (g .top-group .ensures .0) z) (beside (x .t .root) Horizontal After (sym a-half z)) (draft (x .t .root) (map viewSlot (x .out)))))
+    let h = c .before .before .before .before .before .before .before .before in
+    let x = h .args in
+    record {
+      even = c .put-near .ensures .even;
+      steps = λ a T. steps-like a (Rule.insertTileAtTarget a (x .pane) (x .target) (draft (a .root) (nodesFrom (x .heads .now) (x .ids .now) (x .shares .now) (x .minima .now)))) _ (c .put-near .result) _
+          (ap (λ (d : DockTarget). Rule.insertTileAtTarget a (x .pane) d (draft (a .root) (nodesFrom (x .heads .now) (x .ids .now) (x .shares .now) (x .minima .now)))) (c .before .before .before .before .before .before .enum-told .given .1) ∙ (λ z. Rule.putNear a (sym (c .before .before .before .before .before .top-group .ensures .0) z) (beside (sym (root-target (x .root) (x .room) (nodesFrom (x .heads .now) (x .ids .now) (x .shares .now) (x .minima .now)) a T) z) Horizontal After (sym a-half z)) (draft (a .root) (nodesFrom (x .heads .now) (x .ids .now) (x .shares .now) (x .minima .now)))))
+          (c .put-near .ensures .steps a (fits-new (x .root) (x .room) (nodesFrom (x .heads .now) (x .ids .now) (x .shares .now) (x .minima .now)) (viewSlot (c .before .before .before .before .before .top-group .result)) (tabs Top 0 (x .pane ∷ [])) a (c .before .before .before .before .before .top-group .ensures .0) refl T));
+    }
 
 returns-2 : tie.Need-returns-2
 returns-2 c =
-    let g = c .before in
-    let k = g .before .before in
-    let x = k .before .before .args in
+    let h = c .before .before .before .before .before .before .before .before .before in
+    let x = h .args in
+    let k = c .before .before .before .before .before .before .before in
     let y = k .target .given .0 in
-    does-like (x .t) (Rule.insertTileAtTarget (view (x .t)) (x .pane) (x .target) (draft (x .t .root) (map viewSlot (x .out)))) _ (c .put-near2 .result) (c .put-near2 .ensures)
-    (ap (λ (d : DockTarget). Rule.insertTileAtTarget (view (x .t)) (x .pane) d (draft (x .t .root) (map viewSlot (x .out)))) (k .target .given .1) ∙ ap (λ (n : Node). Rule.putNear (view (x .t)) n (beside (y .0) (y .1 .0) (y .1 .1 .0) (y .1 .1 .1 .0)) (draft (x .t .root) (map viewSlot (x .out)))) (sym (g .pane-slot .ensures .0)))
+    record {
+      even = c .put-near2 .ensures .even;
+      steps = λ a T. steps-like a (Rule.insertTileAtTarget a (x .pane) (x .target) (draft (a .root) (nodesFrom (x .heads .now) (x .ids .now) (x .shares .now) (x .minima .now)))) _ (c .put-near2 .result) _
+          (ap (λ (d : DockTarget). Rule.insertTileAtTarget a (x .pane) d (draft (a .root) (nodesFrom (x .heads .now) (x .ids .now) (x .shares .now) (x .minima .now)))) (k .target .given .1) ∙ ap (λ (n : Node). Rule.putNear a n (beside (y .0) (y .1 .0) (y .1 .1 .0) (y .1 .1 .1 .0)) (draft (a .root) (nodesFrom (x .heads .now) (x .ids .now) (x .shares .now) (x .minima .now)))) (sym (c .before .before .before .before .before .pane-slot .ensures .0)))
+          (c .put-near2 .ensures .steps a (fits-new (x .root) (x .room) (nodesFrom (x .heads .now) (x .ids .now) (x .shares .now) (x .minima .now)) (viewSlot (c .before .before .before .before .before .pane-slot .result)) (pane (x .pane)) a (c .before .before .before .before .before .pane-slot .ensures .0) refl T));
+    }
 
 returns-3 : tie.Need-returns-3
 returns-3 c =
-    let k = c .before .before in
-    let x = k .before .before .args in
-    does-like (x .t) (Rule.insertTileAtTarget (view (x .t)) (x .pane) (x .target) (draft (x .t .root) (map viewSlot (x .out)))) _ (c .tab-into .result) (c .tab-into .ensures) (ap (λ (d : DockTarget). Rule.insertTileAtTarget (view (x .t)) (x .pane) d (draft (x .t .root) (map viewSlot (x .out)))) (k .target2 .given .1))
+    let h = c .before .before .before .before .before .before .before .before in
+    let x = h .args in
+    record { even = c .tab-into .ensures .even; steps = λ a T. steps-like a (Rule.insertTileAtTarget a (x .pane) (x .target) (draft (a .root) (nodesFrom (x .heads .now) (x .ids .now) (x .shares .now) (x .minima .now)))) _ (c .tab-into .result) _ (ap (λ (d : DockTarget). Rule.insertTileAtTarget a (x .pane) d (draft (a .root) (nodesFrom (x .heads .now) (x .ids .now) (x .shares .now) (x .minima .now)))) (c .before .before .before .before .before .before .target2 .given .1)) (c .tab-into .ensures .steps a T) }
 
 pub insert-tile-at-target-spec : {M : Type 1} → statement M
 insert-tile-at-target-spec =

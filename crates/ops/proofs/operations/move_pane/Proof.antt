@@ -1,13 +1,13 @@
 -- `ops::operations::move_pane` goes by the pane, then by the target. Assumes nothing.
 use mathlib.Core.Path.{sym, ap, _∙_}
-use Rattle.rules.specs.Tree.{view}
-use Rattle.rules.specs.Operations as Rule
-use Rattle.rules.specs.Target.{PaneLocation}
-use Rattle.nodes.specs.Parts.{locationOf, checkedOf}
 use borrow.Author.Tests.{not-true, not-false}
+use Rattle.rules.specs.Target.{PaneLocation}
 use Rattle.rules.specs.declared.refusal.Refusal.the-variants.{InvalidPaneId}
-use Rattle.ops.proofs.FinishLaws.{does-refused, does-like}
-use Rattle.ops.proofs.OpLaws.{located-nowhere, stands, taken-out, move-refused, move-goes}
+use Rattle.columns.specs.RowLaws.{even-long}
+use Rattle.repair.specs.Whole.{arenaFrom}
+use Rattle.nodes.specs.Parts.{locationOf, checkedOf}
+use Rattle.ops.proofs.OpLaws.{steps-like, refused-as, located-nowhere, stands, taken-out, move-refused, move-goes}
+use Rattle.rules.specs.Operations as Rule
 use borrow.Author.Needs.{needs}
 use Rattle.ops.proofs.operations.move_pane.Statement.{statement}
 use Rattle.ops.proofs.operations.move_pane.Tie as tie
@@ -18,18 +18,11 @@ find-pane-requires c κs = search needs
 is-somewhere-requires : tie.Need-is-somewhere-requires
 is-somewhere-requires c κs = search needs
 
-refused-requires : tie.Need-refused-requires
-refused-requires c κs = search needs
-
 returns : tie.Need-returns
 returns c =
-    let s = c .before .before in
-    let f = s .before in
-    let h = f .before .before in
+    let h = c .before .before .before .before .before in
     let x = h .args in
-    let l = locationOf (f .find-pane .result) in
-    does-refused (x .t) (Rule.movePane (view (x .t)) (x .pane) (x .to)) InvalidPaneId (c .refused .result) (c .refused .ensures)
-    (located-nowhere (x .t) (h .pre) (x .pane) l (f .find-pane .ensures) (λ (m : PaneLocation). Rule.moveAt m (view (x .t)) (x .pane) (x .to)) (sym (s .is-somewhere .ensures) ∙ not-true (s .is-somewhere .result) (c .before .if1 .taken)))
+    record { even = h .pre .0; steps = λ v. refused-as (arenaFrom (x .root) v (x .heads .now) (x .ids .now) (x .shares .now) (x .minima .now)) (Rule.movePane (arenaFrom (x .root) v (x .heads .now) (x .ids .now) (x .shares .now) (x .minima .now)) (x .pane) (x .to)) InvalidPaneId (located-nowhere (arenaFrom (x .root) v (x .heads .now) (x .ids .now) (x .shares .now) (x .minima .now)) (h .pre .1) (x .pane) (locationOf (c .before .before .find-pane .result)) (c .before .before .find-pane .ensures (x .shares .now) (x .minima .now) (h .pre .0 .shares) (h .pre .0 .minima)) (λ (m : PaneLocation). Rule.moveAt m (arenaFrom (x .root) v (x .heads .now) (x .ids .now) (x .shares .now) (x .minima .now)) (x .pane) (x .to)) (sym (c .before .is-somewhere .ensures) ∙ not-true (c .before .is-somewhere .result) (c .if1 .taken))) }
 
 validate-target-requires : tie.Need-validate-target-requires
 validate-target-requires c κs = search needs
@@ -37,54 +30,40 @@ validate-target-requires c κs = search needs
 enum-known-checked : tie.Need-enum-known-checked
 enum-known-checked c = search needs
 
-refused-requires-2 : tie.Need-refused-requires-2
-refused-requires-2 c κs = search needs
-
 returns-2 : tie.Need-returns-2
 returns-2 c =
-    let k = c .before .before in
-    let v = k .before .before in
-    let i = v .before in
-    let s = i .before in
-    let f = s .before in
-    let h = f .before .before in
+    let h = c .before .before .before .before .before .before .before .before .before .before .before .before .before in
     let x = h .args in
-    let l = locationOf (f .find-pane .result) in
-    does-refused (x .t) (Rule.movePane (view (x .t)) (x .pane) (x .to)) _ (c .refused2 .result) (c .refused2 .ensures)
-    (move-refused (x .t) (h .pre) (x .pane) l (f .find-pane .ensures) (x .to) _ (sym (s .is-somewhere .ensures) ∙ not-false (s .is-somewhere .result) (i .if1 .left)) (sym (ap checkedOf (k .checked .given .1)) ∙ v .validate-target .ensures))
+    record { even = h .pre .0; steps = λ v. refused-as (arenaFrom (x .root) v (x .heads .now) (x .ids .now) (x .shares .now) (x .minima .now)) (Rule.movePane (arenaFrom (x .root) v (x .heads .now) (x .ids .now) (x .shares .now) (x .minima .now)) (x .pane) (x .to)) _ (move-refused (arenaFrom (x .root) v (x .heads .now) (x .ids .now) (x .shares .now) (x .minima .now)) (h .pre .1) (x .pane) (locationOf (c .before .before .before .before .before .before .before .before .before .before .find-pane .result)) (c .before .before .before .before .before .before .before .before .before .before .find-pane .ensures (x .shares .now) (x .minima .now) (h .pre .0 .shares) (h .pre .0 .minima)) (x .to) _ (sym (c .before .before .before .before .before .before .before .before .before .is-somewhere .ensures) ∙ not-false (c .before .before .before .before .before .before .before .before .before .is-somewhere .result) (c .before .before .before .before .before .before .before .before .if1 .left)) (sym (ap checkedOf (c .before .checked .given .1)) ∙ c .before .before .before .validate-target .ensures)) }
 
 enum-told : tie.Need-enum-told
 enum-told c = search needs
 
+spares-requires : tie.Need-spares-requires
+spares-requires c κs = search needs
+
 remove-pane-requires : tie.Need-remove-pane-requires
 remove-pane-requires c κs =
-    let f = c .before .before .before .before .before in
-    let h = f .before .before in
+    let h = c .before .before .before .before .before .before .before .before .before .before .before .before .before .before .before .before .before .before in
     let x = h .args in
-    let l = locationOf (f .find-pane .result) in
-    (h .pre .whole, stands (x .t) (h .pre) (x .pane) l (f .find-pane .ensures))
+    (h .pre .0, stands (arenaFrom (x .root) 0 (x .heads .now) (x .ids .now) (x .shares .now) (x .minima .now)) (h .pre .1) (x .pane) (locationOf (c .before .before .before .before .before .before .before .before .before .before .before .before .before .before .before .find-pane .result)) (c .before .before .before .before .before .before .before .before .before .before .before .before .before .before .before .find-pane .ensures (x .shares .now) (x .minima .now) (h .pre .0 .shares) (h .pre .0 .minima)))
 
 insert-tile-at-target-requires : tie.Need-insert-tile-at-target-requires
 insert-tile-at-target-requires c κs =
-    let f = c .before .before .before .before .before .before in
-    let h = f .before .before in
+    let h = c .before .before .before .before .before .before .before .before .before .before .before .before .before .before .before .before .before .before .before .before .before .before .before in
     let x = h .args in
-    let l = locationOf (f .find-pane .result) in
-    taken-out (x .t) (h .pre) (x .pane) l (f .find-pane .ensures) (c .remove-pane .result) (c .remove-pane .ensures .1) (c .remove-pane .ensures .0)
+    (c .before .before .before .before .remove-pane .ensures .1, ((arenaFrom (x .root) 0 (x .heads .now) (x .ids .now) (x .shares .now) (x .minima .now)), (taken-out (arenaFrom (x .root) 0 (x .heads .now) (x .ids .now) (x .shares .now) (x .minima .now)) (h .pre .1) (x .pane) (locationOf (c .before .before .before .before .before .before .before .before .before .before .before .before .before .before .before .before .before .before .before .before .find-pane .result)) (c .before .before .before .before .before .before .before .before .before .before .before .before .before .before .before .before .before .before .before .before .find-pane .ensures (x .shares .now) (x .minima .now) (h .pre .0 .shares) (h .pre .0 .minima)) (c .before .before .before .before .before .before .before .before .before .spares .result) _ (c .before .before .before .before .before .before .before .before .before .spares .ensures (x .ids .now) (x .shares .now) (x .minima .now) (h .pre .0 .ids) (h .pre .0 .shares) (h .pre .0 .minima)) (even-long _ _ _ _ (c .before .before .before .before .remove-pane .ensures .1)) (c .before .before .before .before .remove-pane .ensures .0))))
 
 returns-3 : tie.Need-returns-3
 returns-3 c =
-    let o = c .before in
-    let k = o .before in
-    let v = k .before .before in
-    let i = v .before in
-    let s = i .before in
-    let f = s .before in
-    let h = f .before .before in
+    let h = c .before .before .before .before .before .before .before .before .before .before .before .before .before .before .before .before .before .before .before .before .before .before .before .before in
     let x = h .args in
-    let l = locationOf (f .find-pane .result) in
-    does-like (x .t) (Rule.movePane (view (x .t)) (x .pane) (x .to)) _ (c .insert-tile-at-target .result) (c .insert-tile-at-target .ensures)
-    (move-goes (x .t) (h .pre) (x .pane) l (f .find-pane .ensures) (x .to) (o .remove-pane .result) (sym (s .is-somewhere .ensures) ∙ not-false (s .is-somewhere .result) (i .if1 .left)) (sym (ap checkedOf (k .enum-told .given .1)) ∙ v .validate-target .ensures) (o .remove-pane .ensures .0))
+    record {
+      even = c .insert-tile-at-target .ensures .even;
+      steps = λ v. steps-like (arenaFrom (x .root) v (x .heads .now) (x .ids .now) (x .shares .now) (x .minima .now)) (Rule.movePane (arenaFrom (x .root) v (x .heads .now) (x .ids .now) (x .shares .now) (x .minima .now)) (x .pane) (x .to)) _ (c .insert-tile-at-target .result) _
+          (move-goes (arenaFrom (x .root) v (x .heads .now) (x .ids .now) (x .shares .now) (x .minima .now)) (h .pre .1) (x .pane) (locationOf (c .before .before .before .before .before .before .before .before .before .before .before .before .before .before .before .before .before .before .before .before .before .find-pane .result)) (c .before .before .before .before .before .before .before .before .before .before .before .before .before .before .before .before .before .before .before .before .before .find-pane .ensures (x .shares .now) (x .minima .now) (h .pre .0 .shares) (h .pre .0 .minima)) (x .to) _ (sym (c .before .before .before .before .before .before .before .before .before .before .before .before .before .before .before .before .before .before .before .before .is-somewhere .ensures) ∙ not-false (c .before .before .before .before .before .before .before .before .before .before .before .before .before .before .before .before .before .before .before .before .is-somewhere .result) (c .before .before .before .before .before .before .before .before .before .before .before .before .before .before .before .before .before .before .before .if1 .left)) (sym (ap checkedOf (c .before .before .before .before .before .before .before .before .before .before .before .before .enum-told .given .1)) ∙ c .before .before .before .before .before .before .before .before .before .before .before .before .before .before .validate-target .ensures) (c .before .before .before .before .before .remove-pane .ensures .0))
+          (c .insert-tile-at-target .ensures .steps (arenaFrom (x .root) v (x .heads .now) (x .ids .now) (x .shares .now) (x .minima .now)) (taken-out (arenaFrom (x .root) v (x .heads .now) (x .ids .now) (x .shares .now) (x .minima .now)) (h .pre .1) (x .pane) (locationOf (c .before .before .before .before .before .before .before .before .before .before .before .before .before .before .before .before .before .before .before .before .before .find-pane .result)) (c .before .before .before .before .before .before .before .before .before .before .before .before .before .before .before .before .before .before .before .before .before .find-pane .ensures (x .shares .now) (x .minima .now) (h .pre .0 .shares) (h .pre .0 .minima)) (c .before .before .before .before .before .before .before .before .before .before .spares .result) _ (c .before .before .before .before .before .before .before .before .before .before .spares .ensures (x .ids .now) (x .shares .now) (x .minima .now) (h .pre .0 .ids) (h .pre .0 .shares) (h .pre .0 .minima)) (even-long _ _ _ _ (c .before .before .before .before .before .remove-pane .ensures .1)) (c .before .before .before .before .before .remove-pane .ensures .0)));
+    }
 
 pub move-pane-spec : {M : Type 1} → statement M
 move-pane-spec =
@@ -92,13 +71,12 @@ move-pane-spec =
     (tie.spec
     find-pane-requires
     is-somewhere-requires
-    refused-requires
     returns
     validate-target-requires
     enum-known-checked
-    refused-requires-2
     returns-2
     enum-told
+    spares-requires
     remove-pane-requires
     insert-tile-at-target-requires
     returns-3)

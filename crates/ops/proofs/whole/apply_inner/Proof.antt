@@ -1,9 +1,8 @@
 -- `ops::whole::apply_inner` goes by the operation. Assumes nothing.
-use mathlib.Core.Path.{sym, subst}
-use Rattle.rules.specs.Tree.{view}
+use mathlib.Core.Path.{ap}
 use Rattle.rules.specs.Operations.{applyInner}
-use Rattle.rules.specs.declared.operation.TileOp.{TileOp}
-use Rattle.ops.specs.Steps.{Does}
+use Rattle.repair.specs.Whole.{arenaFrom}
+use Rattle.ops.proofs.OpLaws.{steps-like}
 use borrow.Author.Needs.{needs}
 use Rattle.ops.proofs.whole.apply_inner.Statement.{statement}
 use Rattle.ops.proofs.whole.apply_inner.Tie as tie
@@ -41,37 +40,37 @@ reorder-tab-requires c κs = search needs
 returns : tie.Need-returns
 unfolding applyInner
 returns c =
-    let k = c .before .before in
-    let x = k .before .before .args in
-    subst (λ (o : TileOp). Does (x .t) (applyInner (view (x .t)) o) (c .activate-pane .result)) (sym (k .op .given .1)) (c .activate-pane .ensures)
+    let h = c .before .before .before .before .before .before .before .before in
+    let x = h .args in
+    record { even = c .activate-pane .ensures .even; steps = λ v. steps-like (arenaFrom (x .root) v (x .heads .now) (x .ids .now) (x .shares .now) (x .minima .now)) (applyInner (arenaFrom (x .root) v (x .heads .now) (x .ids .now) (x .shares .now) (x .minima .now)) (x .op)) _ (c .activate-pane .result) _ (ap (applyInner (arenaFrom (x .root) v (x .heads .now) (x .ids .now) (x .shares .now) (x .minima .now))) (c .before .before .before .before .before .before .op .given .1)) (c .activate-pane .ensures .steps v) }
 
 returns-2 : tie.Need-returns-2
 unfolding applyInner
 returns-2 c =
-    let k = c .before .before in
-    let x = k .before .before .args in
-    subst (λ (o : TileOp). Does (x .t) (applyInner (view (x .t)) o) (c .close-pane .result)) (sym (k .op2 .given .1)) (c .close-pane .ensures)
+    let h = c .before .before .before .before .before .before .before .before in
+    let x = h .args in
+    record { even = c .close-pane .ensures .even; steps = λ v. steps-like (arenaFrom (x .root) v (x .heads .now) (x .ids .now) (x .shares .now) (x .minima .now)) (applyInner (arenaFrom (x .root) v (x .heads .now) (x .ids .now) (x .shares .now) (x .minima .now)) (x .op)) _ (c .close-pane .result) _ (ap (applyInner (arenaFrom (x .root) v (x .heads .now) (x .ids .now) (x .shares .now) (x .minima .now))) (c .before .before .before .before .before .before .op2 .given .1)) (c .close-pane .ensures .steps v) }
 
 returns-3 : tie.Need-returns-3
 unfolding applyInner
 returns-3 c =
-    let k = c .before .before in
-    let x = k .before .before .args in
-    subst (λ (o : TileOp). Does (x .t) (applyInner (view (x .t)) o) (c .split-pane .result)) (sym (k .op3 .given .1)) (c .split-pane .ensures)
+    let h = c .before .before .before .before .before .before .before .before in
+    let x = h .args in
+    record { even = c .split-pane .ensures .even; steps = λ v. steps-like (arenaFrom (x .root) v (x .heads .now) (x .ids .now) (x .shares .now) (x .minima .now)) (applyInner (arenaFrom (x .root) v (x .heads .now) (x .ids .now) (x .shares .now) (x .minima .now)) (x .op)) _ (c .split-pane .result) _ (ap (applyInner (arenaFrom (x .root) v (x .heads .now) (x .ids .now) (x .shares .now) (x .minima .now))) (c .before .before .before .before .before .before .op3 .given .1)) (c .split-pane .ensures .steps v) }
 
 returns-4 : tie.Need-returns-4
 unfolding applyInner
 returns-4 c =
-    let k = c .before .before in
-    let x = k .before .before .args in
-    subst (λ (o : TileOp). Does (x .t) (applyInner (view (x .t)) o) (c .move-pane .result)) (sym (k .op4 .given .1)) (c .move-pane .ensures)
+    let h = c .before .before .before .before .before .before .before .before in
+    let x = h .args in
+    record { even = c .move-pane .ensures .even; steps = λ v. steps-like (arenaFrom (x .root) v (x .heads .now) (x .ids .now) (x .shares .now) (x .minima .now)) (applyInner (arenaFrom (x .root) v (x .heads .now) (x .ids .now) (x .shares .now) (x .minima .now)) (x .op)) _ (c .move-pane .result) _ (ap (applyInner (arenaFrom (x .root) v (x .heads .now) (x .ids .now) (x .shares .now) (x .minima .now))) (c .before .before .before .before .before .before .op4 .given .1)) (c .move-pane .ensures .steps v) }
 
 returns-5 : tie.Need-returns-5
 unfolding applyInner
 returns-5 c =
-    let k = c .before .before in
-    let x = k .before .before .args in
-    subst (λ (o : TileOp). Does (x .t) (applyInner (view (x .t)) o) (c .reorder-tab .result)) (sym (k .op5 .given .1)) (c .reorder-tab .ensures)
+    let h = c .before .before .before .before .before .before .before .before in
+    let x = h .args in
+    record { even = c .reorder-tab .ensures .even; steps = λ v. steps-like (arenaFrom (x .root) v (x .heads .now) (x .ids .now) (x .shares .now) (x .minima .now)) (applyInner (arenaFrom (x .root) v (x .heads .now) (x .ids .now) (x .shares .now) (x .minima .now)) (x .op)) _ (c .reorder-tab .result) _ (ap (applyInner (arenaFrom (x .root) v (x .heads .now) (x .ids .now) (x .shares .now) (x .minima .now))) (c .before .before .before .before .before .before .op5 .given .1)) (c .reorder-tab .ensures .steps v) }
 
 pub apply-inner-spec : {M : Type 1} → statement M
 apply-inner-spec =
