@@ -33,14 +33,14 @@ mode-high (suc (suc (suc zero))) m h a b = absurd (b refl)
 mode-high (suc (suc (suc (suc k)))) m h a b = refl
 
 -- a slot's own head passes
-bar-ok : (b : TabBarPlacement) → ltb (barCode b) 5 ≡ true
+pub bar-ok : (b : TabBarPlacement) → ltb (barCode b) 5 ≡ true
 bar-ok Hidden = refl
 bar-ok Top = refl
 bar-ok Bottom = refl
 bar-ok Left = refl
 bar-ok Right = refl
 
-axis-ok : (a : Axis) → ltb (axisCode a) 2 ≡ true
+pub axis-ok : (a : Axis) → ltb (axisCode a) 2 ≡ true
 axis-ok Horizontal = refl
 axis-ok Vertical = refl
 

@@ -3,3 +3,4 @@ pub mod ReadLaws
 pub mod ArenaLaws
 pub mod TidyLaws
 pub mod WriteLaws
+pub mod BackLaws

@@ -2,6 +2,7 @@
 
 pub mod actions;
 pub mod arena;
+pub mod back;
 pub mod codes;
 pub mod operation;
 pub mod solving;

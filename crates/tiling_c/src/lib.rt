@@ -4,6 +4,7 @@
 // operation is refused with 5, and then nothing is written.
 use lending::actions;
 use lending::arena;
+use lending::back;
 use lending::codes;
 use lending::operation;
 use lending::solving;
@@ -54,14 +55,38 @@ pub extern "C" fn tiling_repair(
     if !codes::codes_ok(heads) {
         return BAD_INPUT;
     }
-    let t = arena::load(top, heads, ids, shares, minima);
-    let d = tiling::repair(t);
-    let report = d.actions;
-    let count = actions::write(report, acts);
+    arena::sized(heads, ids, shares, minima);
+    let mut plain = tidy::tidy(heads);
+    let mut rows = *ids;
+    let mut parts = *shares;
+    let mut least = *minima;
+    let mut list = [[0u64; 3]; 1300];
+    let words = *top;
+    let d = repair::settle::repair_columns(
+        words[0],
+        &mut plain,
+        &mut rows,
+        &mut parts,
+        &mut least,
+        &mut list,
+    );
     let answer = d.answer;
-    let n = told::tell(answer, count as u64, 0, out);
-    let tree = d.tree;
-    arena::keep(n, tree, top, heads, ids, shares, minima);
+    let n = told::tell(answer, d.count as u64, 0, out);
+    actions::write(&list, d.count, acts);
+    back::keep_columns(
+        n,
+        d.root,
+        words[1],
+        &plain,
+        &rows,
+        &parts,
+        &least,
+        top,
+        heads,
+        ids,
+        shares,
+        minima,
+    );
     n
 }
 
