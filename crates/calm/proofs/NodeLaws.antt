@@ -18,10 +18,11 @@ use Rattle.rules.specs.Repair.{Entry, entry, entries, melts}
 use Rattle.rules.specs.declared.model.TileId.{TileId}
 use Rattle.rules.specs.declared.model.Axis.{Axis}
 use Rattle.forest.specs.Lists.{free, free-set}
+use Rattle.forest.specs.Still.{noneLost}
 use Rattle.normalize.specs.Walked.{Even, entriesOf}
 use Rattle.normalize.specs.Splits.{Loaded, Mends}
 use Rattle.normalize.specs.declared.Kids.{Kids}
-use Rattle.calm.specs.Calm.{Look, look, taking, calmPanes, seeing, calmGroup, unmelted, andThen, calmKids, calmSplit, calmNode, calmTile, calm}
+use Rattle.calm.specs.Calm.{Look, look, taking, calmPanes, seeing, calmGroup, unmelted, andThen, calmKids, calmSplit, calmNode, calmTile, calm, calmEnd}
 use Rattle.calm.specs.Reads.{sighted, looked, Sights, Groups, Reads, Holding}
 use Rattle.calm.specs.declared.Calm.{Calm}
 use Rattle.calm.specs.declared.nodes.Held.{Held}
@@ -171,3 +172,12 @@ module _ (again : TileId → Look → Option Look) (ns : List Node) (a : Axis) (
     pub going-done : length es ≤ j → some (look cs (take m seen)) ≡ whole
     unfolding calmKids
     going-done h = sym (ap (λ (x : List Entry). calmKids again ns a x (some (look cs (take m seen)))) (drop-of-length-le es h)) ∙ G .left
+
+-- ---- the end
+
+module _ (ns : List Node) (o : Option Look) (b : Bool) (l : Look) (e : looked b l ≡ o) where
+  pub end-early : b ≡ false → false ≡ calmEnd ns o
+  end-early f = sym (ap (calmEnd ns) (sym e ∙ ap (λ (c : Bool). looked c l) f))
+
+  pub end-told : b ≡ true → (r : Bool) → r ≡ noneLost (l .claimed) ns → r ≡ calmEnd ns o
+  end-told f r n = n ∙ sym (ap (calmEnd ns) (sym e ∙ ap (λ (c : Bool). looked c l) f))

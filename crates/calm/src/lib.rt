@@ -2,6 +2,7 @@
 // written but which slots are claimed and which panes were seen, so the columns are read where they stand.
 pub mod leaves;
 pub mod nodes;
+pub mod whole;
 
 // Whether the walk goes on, and how many panes were seen.
 pub struct Calm {
