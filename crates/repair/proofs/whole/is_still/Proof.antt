@@ -10,13 +10,13 @@ heads-over-requires c κs = search needs
 
 returns : tie.Need-returns
 returns c =
-    let v = c .before .before .before in
+    let v = c .before .before in
     let x = v .args in
     λ r. over-still (x .root) r (x .heads .now) (x .ids .now) (x .shares .now) (x .minima .now) (v .pre) (sym (c .before .heads-over .ensures) ∙ c .if1 .taken)
 
 calm-columns-requires : tie.Need-calm-columns-requires
 calm-columns-requires c κs =
-    let v = c .before .before .before in
+    let v = c .before .before in
     let x = v .args in
     let p = v .pre in
     (p .heads, p .ids, p .shares, p .minima, slim-heads (x .heads .now) (sym (c .before .heads-over .ensures) ∙ c .if1 .left))
@@ -24,7 +24,7 @@ calm-columns-requires c κs =
 returns-2 : tie.Need-returns-2
 returns-2 c =
     let i = c .before in
-    let v = i .before .before .before in
+    let v = i .before .before in
     let x = v .args in
     λ r. calm-tells (x .root) r (x .heads .now) (x .ids .now) (x .shares .now) (x .minima .now) (v .pre) (sym (i .before .heads-over .ensures) ∙ i .if1 .left) (c .calm-columns .result) (c .calm-columns .ensures)
 
