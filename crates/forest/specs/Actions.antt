@@ -204,7 +204,7 @@ sweep-length xs (x ∷ ns) i l = go (isReached i xs || isEmpty x) (sweep-length 
     go true ih = omega (arith, ih (sweepNote true i l))
     go false ih = omega (arith, ih (sweepNote false i l), added-length (RemovedInvalidNode (tile i)) l)
 
-all-narrow : (ns : List Node) → anyOf wideNode ns ≡ false → (j : ℕ) → wideNode (getD ns j empty) ≡ false
+pub all-narrow : (ns : List Node) → anyOf wideNode ns ≡ false → (j : ℕ) → wideNode (getD ns j empty) ≡ false
 unfolding anyOf
 all-narrow [] e j = refl
 all-narrow (x ∷ xs) e zero = or-left (wideNode x) (anyOf wideNode xs) e

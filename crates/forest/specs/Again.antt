@@ -69,7 +69,7 @@ position-same (y ∷ ys) n (suc a) h d =
     rw (ne-eqb (getD ys a 0) y (all-getD (λ z. z ≢ y) ys 0 a (le-of-suc-le-suc h) (d .0)))
     (position-same ys (suc n) a (le-of-suc-le-suc h) (d .1) ∙ ap some (let q : suc n + a ≡ n + suc a = omega arith in q))
 
-active-same : (ps : List ℕ) (a : ℕ) → a < length ps → Distinct ps → activeOf (getElem? ps a) ps ≡ a
+pub active-same : (ps : List ℕ) (a : ℕ) → a < length ps → Distinct ps → activeOf (getElem? ps a) ps ≡ a
 active-same ps a h d = ap (λ (o : Option ℕ). activeOf o ps) (element-at ps a h) ∙ ap orFirst (position-same ps 0 a h d) ∙ (let q : 0 + a ≡ a = omega arith in q)
 
 group-left : (i : TileId) (b : TabBarPlacement) (a : ℕ) (qs : List ℕ) (u : Work) → nodeAt (u .state .nodes) i ≡ tabs b a qs → a < length qs → Distinct qs

@@ -43,7 +43,7 @@ plainNodes ns = map plainNode ns
 
 -- ---- a list of actions that is empty was empty before, and nothing was added
 
-added-some : (a : RepairAction) (l : List RepairAction) → added a l ≡ [] → ⊥
+pub added-some : (a : RepairAction) (l : List RepairAction) → added a l ≡ [] → ⊥
 unfolding added anyOf
 added-some a l e = go (anyOf (sameAction a) l) refl e
   where
@@ -54,22 +54,22 @@ added-some a l e = go (anyOf (sameAction a) l) refl e
     go true q e′ = never (sym q ∙ ap (anyOf (sameAction a)) e′ ∙ none′)
     go false q e′ = omega (arith, ap length e′, length-append l (a ∷ []))
 
-added-never : {A : Type 0} (a : RepairAction) (l : List RepairAction) → added a l ≡ [] → A
+pub added-never : {A : Type 0} (a : RepairAction) (l : List RepairAction) → added a l ≡ [] → A
 added-never a l e = absurd (added-some a l e)
 
-addedIf-none : (b : Bool) (a : RepairAction) (l : List RepairAction) → addedIf b a l ≡ [] → (b ≡ false) × (l ≡ [])
+pub addedIf-none : (b : Bool) (a : RepairAction) (l : List RepairAction) → addedIf b a l ≡ [] → (b ≡ false) × (l ≡ [])
 addedIf-none true a l e = added-never a l e
 addedIf-none false a l e = (refl, e)
 
 -- ---- actions only grow
 
-abbrev Grows : Work → Work → Type 0
+abbrev pub Grows : Work → Work → Type 0
 Grows w v = v .actions ≡ [] → w .actions ≡ []
 
-abbrev Keeping : (TileId → Work → Out) → Type 0
+abbrev pub Keeping : (TileId → Work → Out) → Type 0
 Keeping again = (i : TileId) (w : Work) → Grows w (again i w .work)
 
-retain-grows : (i : TileId) (ps : List ℕ) (s : Sifted) → Grows (s .left) (retain i ps s .left)
+pub retain-grows : (i : TileId) (ps : List ℕ) (s : Sifted) → Grows (s .left) (retain i ps s .left)
 unfolding retain
 retain-grows i [] s e = e
 retain-grows i (p ∷ ps) s e = go (contains p (s .left .state .panes)) (retain-grows i ps) e
@@ -78,11 +78,11 @@ retain-grows i (p ∷ ps) s e = go (contains p (s .left .state .panes)) (retain-
     go true ih q = added-never _ (s .left .actions) (ih (siftBy true i p s) q)
     go false ih q = ih (siftBy false i p s) q
 
-group-grows : (i : TileId) (b : TabBarPlacement) (a : ℕ) (ps qs : List ℕ) (w : Work) → Grows w (groupLeft i b a ps qs w .work)
+pub group-grows : (i : TileId) (b : TabBarPlacement) (a : ℕ) (ps qs : List ℕ) (w : Work) → Grows w (groupLeft i b a ps qs w .work)
 group-grows i b a ps [] w e = added-never _ (w .actions) e
 group-grows i b a ps (q ∷ qs) w e = addedIf-none (not (eqb a (activeOf (getElem? ps a) (q ∷ qs)))) (RepairedActiveTab i) (w .actions) e .1
 
-place-grows : (a : Axis) (e : Entry) (k : Option TileId) (r : Run) (w : Work) → Grows w (place a e k r w .left)
+pub place-grows : (a : Axis) (e : Entry) (k : Option TileId) (r : Run) (w : Work) → Grows w (place a e k r w .left)
 place-grows a e none r w q = q
 place-grows a e (some c) r w q = go (melts a (e .minimum) (nodeAt (w .state .nodes) c)) q
   where
@@ -90,20 +90,20 @@ place-grows a e (some c) r w q = go (melts a (e .minimum) (nodeAt (w .state .nod
     go true q′ = added-never _ (w .actions) q′
     go false q′ = q′
 
-split-grows : (i : TileId) (a : Axis) (old : List Float) (es : List Entry) (r : Run) → Grows (r .left) (splitLeft i a old es r .work)
+pub split-grows : (i : TileId) (a : Axis) (old : List Float) (es : List Entry) (r : Run) → Grows (r .left) (splitLeft i a old es r .work)
 split-grows i a old [] r e = added-never _ (r .left .actions) e
 split-grows i a old (x ∷ []) r e = added-never _ (r .left .actions) e
 split-grows i a old (x ∷ y ∷ es) r e =
     addedIf-none (r .moved || not (eqReals (repairedShares (length (x ∷ y ∷ es)) (sharesOf (x ∷ y ∷ es))) old)) (RepairedShares i) (r .left .actions) e .1
 
 module _ (again : TileId → Work → Out) (g : Keeping again) where
-  kids-grow : (a : Axis) (es : List Entry) (r : Run) → Grows (r .left) (kidsFrom again a es r .left)
+  pub kids-grow : (a : Axis) (es : List Entry) (r : Run) → Grows (r .left) (kidsFrom again a es r .left)
   unfolding kidsFrom
   kids-grow a [] r e = e
   kids-grow a (x ∷ es) r e =
       let o = again (x .child) (r .left) in g (x .child) (r .left) (place-grows a x (o .kept) r (o .work) (kids-grow a es (placeOut a x r o) e))
 
-  noted-none : (i : TileId) (ss ms old mins : List Float) (w : Work) → splitNoted i ss ms old mins w .actions ≡ [] → (eqReals old ss ≡ true) × (eqReals (compactConstraints mins) ms ≡ true) × (w .actions ≡ [])
+  pub noted-none : (i : TileId) (ss ms old mins : List Float) (w : Work) → splitNoted i ss ms old mins w .actions ≡ [] → (eqReals old ss ≡ true) × (eqReals (compactConstraints mins) ms ≡ true) × (w .actions ≡ [])
   noted-none i ss ms old mins w e =
       let first = addedIf (not (eqReals (compactConstraints mins) ms)) (RepairedConstraints i) (w .actions) in
       let (p, q) = addedIf-none (not (eqReals old ss)) (RepairedShares i) first e in
@@ -114,7 +114,7 @@ module _ (again : TileId → Work → Out) (g : Keeping again) where
       not-false true q = refl
       not-false false q = never q
 
-  node-grows : (n : Node) (i : TileId) (w : Work) → Grows w (byNode n again i w .work)
+  pub node-grows : (n : Node) (i : TileId) (w : Work) → Grows w (byNode n again i w .work)
   unfolding groupStep splitStep
   node-grows empty i w e = added-never _ (w .actions) e
   node-grows (pane p) i w e = go (contains p (w .state .panes)) e
@@ -129,7 +129,7 @@ module _ (again : TileId → Work → Out) (g : Keeping again) where
       let r = kidsFrom again a (entries cs old mins) (run [] false (splitNoted i ss ms old mins (claim i w))) in
       noted-none i ss ms old mins (claim i w) (kids-grow a (entries cs old mins) (run [] false (splitNoted i ss ms old mins (claim i w))) (split-grows i a ss (r .list) r e)) .2
 
-  tile-grows : (i : TileId) (w : Work) → Grows w (tileStep again i w .work)
+  pub tile-grows : (i : TileId) (w : Work) → Grows w (tileStep again i w .work)
   unfolding tileStep
   tile-grows i w e = go (leb 64 (i .slot)) e
     where
@@ -141,7 +141,7 @@ module _ (again : TileId → Work → Out) (g : Keeping again) where
       go true q = added-never _ (w .actions) q
       go false q = claimed (getD (w .state .claimed) (i .slot) false) q
 
-walk-grows : (f : ℕ) → Keeping (normalizeNode f)
+pub walk-grows : (f : ℕ) → Keeping (normalizeNode f)
 unfolding normalizeNode
 walk-grows zero i w e = added-never _ (w .actions) e
 walk-grows (suc f) i w e = tile-grows (normalizeNode f) (walk-grows f) i w e
@@ -153,20 +153,20 @@ passed false true n = plainNode n
 passed false false n = n
 passed true b n = n
 
-abbrev Silent : State → State → Type 0
+abbrev pub Silent : State → State → Type 0
 Silent w v = (j : ℕ) → getD (v .nodes) j empty ≡ passed (getD (w .claimed) j false) (getD (v .claimed) j false) (getD (w .nodes) j empty)
 
-abbrev Mono : State → State → Type 0
+abbrev pub Mono : State → State → Type 0
 Mono w v = (j : ℕ) → getD (w .claimed) j false ≡ true → getD (v .claimed) j false ≡ true
 
-silent-refl : (w : State) → Silent w w
+pub silent-refl : (w : State) → Silent w w
 silent-refl w j = go (getD (w .claimed) j false)
   where
     go : (b : Bool) → getD (w .nodes) j empty ≡ passed b b (getD (w .nodes) j empty)
     go true = refl
     go false = refl
 
-silent-chain : (w v u : State) → Mono w v → Mono v u → Silent w v → Silent v u → Silent w u
+pub silent-chain : (w v u : State) → Mono w v → Mono v u → Silent w v → Silent v u → Silent w u
 silent-chain w v u m n p q j = go (getD (w .claimed) j false) (getD (v .claimed) j false) (getD (u .claimed) j false) refl refl refl (p j) (q j)
   where
     go : (a b c : Bool) → getD (w .claimed) j false ≡ a → getD (v .claimed) j false ≡ b → getD (u .claimed) j false ≡ c
@@ -178,15 +178,15 @@ silent-chain w v u m n p q j = go (getD (w .claimed) j false) (getD (v .claimed)
     go false true false x y z h k = never (sym (n j y) ∙ z)
     go true false c x y z h k = never (sym (m j x) ∙ y)
 
-grown-mono : (w v : State) (f : Forest) → Grown w v f → Mono w v
+pub grown-mono : (w v : State) (f : Forest) → Grown w v f → Mono w v
 grown-mono w v f G j e = G .keep j e .0
 
-abbrev Hushed : (TileId → Work → Out) → Type 0
+abbrev pub Hushed : (TileId → Work → Out) → Type 0
 Hushed again = (i : TileId) (w : Work) → Good (w .state) → again i w .work .actions ≡ [] → (again i w .kept ≡ some i) × Silent (w .state) (again i w .work .state)
 
 -- ---- panes: all are kept
 
-retain-hushed : (i : TileId) (ps : List ℕ) (s : Sifted) → retain i ps s .left .actions ≡ []
+pub retain-hushed : (i : TileId) (ps : List ℕ) (s : Sifted) → retain i ps s .left .actions ≡ []
     → (retain i ps s .list ≡ s .list ++ ps) × (retain i ps s .left .state .nodes ≡ s .left .state .nodes) × (retain i ps s .left .state .claimed ≡ s .left .state .claimed)
 unfolding retain
 retain-hushed i [] s e = (sym (append-nil (s .list)), refl, refl)
@@ -208,7 +208,7 @@ module _ (w v : State) (good : Good w) (i : TileId) (h : i .slot < 64) (e : getD
   claim-set = getD-set-same (w .claimed) (i .slot) true false (omega (arith, good .0))
 
   -- the slot is made plain, and the rest as it was
-  written-silent : (n : Node) → n ≡ plainNode (nodeAt (w .nodes) i) → length (v .nodes) ≡ 64 → Mono claimed v → Silent claimed v
+  pub written-silent : (n : Node) → n ≡ plainNode (nodeAt (w .nodes) i) → length (v .nodes) ≡ 64 → Mono claimed v → Silent claimed v
       → Silent w (state (set (v .nodes) (i .slot) n) (v .claimed) (v .panes))
   written-silent n q l m s j = go (ℕ-discrete j (i .slot))
     where
@@ -223,7 +223,7 @@ module _ (w v : State) (good : Good w) (i : TileId) (h : i .slot < 64) (e : getD
 
 -- ---- a split's children: each is kept, in its place
 
-place-hushed : (a : Axis) (e : Entry) (r : Run) (w : Work) → place a e (some (e .child)) r w .left .actions ≡ [] → place a e (some (e .child)) r w ≡ run (r .list ++ e ∷ []) (r .moved) w
+pub place-hushed : (a : Axis) (e : Entry) (r : Run) (w : Work) → place a e (some (e .child)) r w .left .actions ≡ [] → place a e (some (e .child)) r w ≡ run (r .list ++ e ∷ []) (r .moved) w
 place-hushed a e r w q = go (melts a (e .minimum) (nodeAt (w .state .nodes) (e .child))) q
   where
     go : (b : Bool) → placeBy b e (e .child) (nodeAt (w .state .nodes) (e .child)) r w .left .actions ≡ []
@@ -232,7 +232,7 @@ place-hushed a e r w q = go (melts a (e .minimum) (nodeAt (w .state .nodes) (e .
     go false q′ = refl
 
 module _ (again : TileId → Work → Out) (g : Works again) (k : Keeping again) (hush : Hushed again) where
-  kids-hushed : (a : Axis) (es : List Entry) (r : Run) → Good (r .left .state) → All Least es → kidsFrom again a es r .left .actions ≡ []
+  pub kids-hushed : (a : Axis) (es : List Entry) (r : Run) → Good (r .left .state) → All Least es → kidsFrom again a es r .left .actions ≡ []
       → (kidsFrom again a es r .list ≡ r .list ++ es) × (kidsFrom again a es r .moved ≡ r .moved) × Silent (r .left .state) (kidsFrom again a es r .left .state)
       × Mono (r .left .state) (kidsFrom again a es r .left .state) × (length (kidsFrom again a es r .left .state .nodes) ≡ length (r .left .state .nodes))
   unfolding kidsFrom
@@ -257,7 +257,7 @@ module _ (again : TileId → Work → Out) (g : Works again) (k : Keeping again)
 
   module _ (i : TileId) (w : Work) (good : Good (w .state)) where
     -- the split that is stored is the one that stood there, made plain
-    split-left : (a : Axis) (ss : List Float) (es : List Entry) (r : Run) → r .list ≡ es → r .moved ≡ false → splitLeft i a ss (r .list) r .work .actions ≡ []
+    pub split-left : (a : Axis) (ss : List Float) (es : List Entry) (r : Run) → r .list ≡ es → r .moved ≡ false → splitLeft i a ss (r .list) r .work .actions ≡ []
         → (splitLeft i a ss (r .list) r .kept ≡ some i) × (splitLeft i a ss (r .list) r .work .state ≡ state (set (r .left .state .nodes) (i .slot) (split a (childrenOf es) (repairedShares (length es) (sharesOf es)) (compactConstraints (minimaOf es)))) (r .left .state .claimed) (r .left .state .panes))
         × (eqReals (repairedShares (length es) (sharesOf es)) ss ≡ true)
     split-left a ss es r p m q = go es r p m q
@@ -283,14 +283,14 @@ module _ (again : TileId → Work → Out) (g : Works again) (k : Keeping again)
             fine false false z = never z
 
     -- the lists read off a split, where they equal those that stand there
-    children-back : (cs : List TileId) (ss ms : List Float) → length ss ≡ length cs → length ms ≡ length cs → childrenOf (entries cs ss ms) ≡ cs
+    pub children-back : (cs : List TileId) (ss ms : List Float) → length ss ≡ length cs → length ms ≡ length cs → childrenOf (entries cs ss ms) ≡ cs
     unfolding entries
     children-back [] ss ms p q = refl
     children-back (c ∷ cs) [] ms p q = absurd (omega arith)
     children-back (c ∷ cs) (x ∷ ss) [] p q = absurd (omega arith)
     children-back (c ∷ cs) (x ∷ ss) (m ∷ ms) p q = ap (λ (l : List TileId). c ∷ l) (children-back cs ss ms (omega arith) (omega arith))
 
-    shares-back : (cs : List TileId) (ss ms : List Float) → length ss ≡ length cs → length ms ≡ length cs → sharesOf (entries cs ss ms) ≡ ss
+    pub shares-back : (cs : List TileId) (ss ms : List Float) → length ss ≡ length cs → length ms ≡ length cs → sharesOf (entries cs ss ms) ≡ ss
     unfolding entries
     shares-back [] [] ms p q = refl
     shares-back [] (x ∷ ss) ms p q = absurd (omega arith)
@@ -298,7 +298,7 @@ module _ (again : TileId → Work → Out) (g : Works again) (k : Keeping again)
     shares-back (c ∷ cs) (x ∷ ss) [] p q = absurd (omega arith)
     shares-back (c ∷ cs) (x ∷ ss) (m ∷ ms) p q = ap (λ (l : List Float). x ∷ l) (shares-back cs ss ms (omega arith) (omega arith))
 
-    minima-back : (cs : List TileId) (ss ms : List Float) → length ss ≡ length cs → length ms ≡ length cs → minimaOf (entries cs ss ms) ≡ ms
+    pub minima-back : (cs : List TileId) (ss ms : List Float) → length ss ≡ length cs → length ms ≡ length cs → minimaOf (entries cs ss ms) ≡ ms
     unfolding entries
     minima-back [] ss [] p q = refl
     minima-back [] ss (m ∷ ms) p q = absurd (omega arith)
@@ -307,7 +307,7 @@ module _ (again : TileId → Work → Out) (g : Works again) (k : Keeping again)
     minima-back (c ∷ cs) (x ∷ ss) (m ∷ ms) p q = ap (λ (l : List Float). m ∷ l) (minima-back cs ss ms (omega arith) (omega arith))
 
     module _ (h : i .slot < 64) (e : getD (w .state .claimed) (i .slot) false ≡ false) where
-      split-hushed : (a : Axis) (cs : List TileId) (ss ms : List Float) → nodeAt (w .state .nodes) i ≡ split a cs ss ms → splitStep again i a cs ss ms (claim i w) .work .actions ≡ []
+      pub split-hushed : (a : Axis) (cs : List TileId) (ss ms : List Float) → nodeAt (w .state .nodes) i ≡ split a cs ss ms → splitStep again i a cs ss ms (claim i w) .work .actions ≡ []
           → (splitStep again i a cs ss ms (claim i w) .kept ≡ some i) × Silent (w .state) (splitStep again i a cs ss ms (claim i w) .work .state)
       unfolding splitStep
       split-hushed a cs ss ms is q =

@@ -177,7 +177,7 @@ module _ (hs xs : List (List ℕ)) (ss ms : List (List Float)) (cs : List Bool) 
 -- ---- its children, one by one
 
 -- the entry at a place
-entries-at : (is : List ℕ) (ss ms : List Float) (j : ℕ) (d : Entry) → j < length is → length ss ≡ length is → length ms ≡ length is
+pub entries-at : (is : List ℕ) (ss ms : List Float) (j : ℕ) (d : Entry) → j < length is → length ss ≡ length is → length ms ≡ length is
     → getD (entries (map tile is) ss ms) j d ≡ entry (tile (getD is j 0)) (getD ss j zero-f) (getD ms j zero-f)
 unfolding entries
 entries-at [] ss ms j d h p q = absurd (not-suc-le-zero h)
@@ -186,7 +186,7 @@ entries-at (i ∷ is) (s ∷ ss) [] j d h p q = absurd (omega arith)
 entries-at (i ∷ is) (s ∷ ss) (m ∷ ms) zero d h p q = refl
 entries-at (i ∷ is) (s ∷ ss) (m ∷ ms) (suc j) d h p q = entries-at is ss ms j d (le-of-suc-le-suc h) (omega arith) (omega arith)
 
-entries-long : (is : List ℕ) (ss ms : List Float) → length ss ≡ length is → length ms ≡ length is → length (entries (map tile is) ss ms) ≡ length is
+pub entries-long : (is : List ℕ) (ss ms : List Float) → length ss ≡ length is → length ms ≡ length is → length (entries (map tile is) ss ms) ≡ length is
 unfolding entries
 entries-long [] ss ms p q = refl
 entries-long (i ∷ is) [] ms p q = absurd (omega arith)

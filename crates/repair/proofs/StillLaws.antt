@@ -1,36 +1,33 @@
--- Laws of soundness by the walk alone: how each end of it tells whether a repair would list anything. Assumes nothing.
+-- Laws of soundness: the walk that only reads tells whether a repair would list anything, and that tells soundness. Assumes nothing.
 use mathlib.Core.Path.{_≡_, refl, sym, ap, subst, _∙_}
-use mathlib.Core.Bool.{Bool, true, false, _&&_, _||_, or-false}
+use mathlib.Core.Bool.{Bool, true, false, _||_, or-false}
 use mathlib.Core.List.{List, [], _∷_, map}
-use Prim.Native.Nat.{ℕ, zero, suc, _<_}
+use Prim.Native.Nat.{ℕ, zero, suc}
 use native.Mathlib.Omega.{arith}
 use borrow.Author.Tests.{ltb-false}
 use lib.Dec.{ltb}
-use lib.ListN.{length, getD, take}
+use lib.ListN.{length, getD}
 use lib.Ieee.{Float}
 use Rattle.rules.specs.Lists.{anyOf}
-use Rattle.rules.specs.Tree.{Arena, tile, wideNode, overSlot, view}
-use Rattle.rules.specs.Repair.{Out, begin, normalizeNode, repair}
-use Rattle.rules.specs.Sound.{isNone, loneEmptyRoot, sound}
+use Rattle.rules.specs.Tree.{Arena, overSlot, view}
+use Rattle.rules.specs.Repair.{repair}
+use Rattle.rules.specs.Sound.{loneEmptyRoot, sound}
 use Rattle.rules.specs.declared.model.Kind.{Kind}
 use Rattle.rules.specs.declared.model.Kind.the-variants.{Empty, Pane, Tabs, Split}
 use Rattle.rules.specs.declared.model.Slot.{Slot}
 use Rattle.rules.specs.declared.model.TileTree.{TileTree}
-use Rattle.rules.specs.declared.model.RepairAction.{RepairAction}
 use Rattle.forest.specs.SoundIs.{sound-is}
-use Rattle.forest.specs.Still.{noneLost, isStill, still-kept, still-gone, still-wide}
+use Rattle.forest.specs.Still.{isStill}
 use Rattle.forest.specs.Finish.{repair-over}
-use Rattle.normalize.specs.Work.{Cols, nodesIn, Shows}
-use Rattle.columns.specs.Columns.{nodesFrom, Slim, Lists}
-use Rattle.normalize.specs.Walked.{Walked}
-use Rattle.columns.specs.Pack.{headBy, headOf, overHead, overOf, NoneLost}
+use Rattle.columns.specs.Columns.{nodesFrom, Slim}
+use Rattle.columns.specs.Pack.{headBy, headOf, overHead, overOf}
 use Rattle.repair.specs.Whole.{Columned, arenaFrom, Plain}
-use Rattle.normalize.specs.declared.Kept.{Kept}
-use Rattle.normalize.specs.declared.Kept.the-variants.{At, Gone, Wide}
 use Rattle.columns.specs.PackLaws.{or-left, or-right, heads-over}
 use Rattle.columns.specs.OverLaws.{any-alike}
 use Rattle.columns.specs.ColumnLaws.{nodes-long}
-use Rattle.repair.proofs.StartLaws.{narrow-in, start, start-shows, heads-long, ids-long, shares-long, minima-long, columns-show}
+use Rattle.calm.specs.Calm.{calmArena}
+use Rattle.calm.specs.Whole.{calm-still}
+use Rattle.repair.proofs.StartLaws.{narrow-in, start, start-sized, heads-long, ids-long, shares-long, minima-long, columns-show}
 
 -- heads whose lengths are 16 at most
 slim-by : (h : List ℕ) → overHead h ≡ false → Slim h
@@ -43,16 +40,6 @@ unfolding anyOf
 slim-heads [] e i = (omega arith, omega arith, omega arith)
 slim-heads (h ∷ hs) e zero = slim-by h (or-left (overHead h) (anyOf overHead hs) e)
 slim-heads (h ∷ hs) e (suc i) = slim-heads hs (or-right (overHead h) (anyOf overHead hs) e) i
-
-none-of : (acts : List (List ℕ)) (n : ℕ) (l : List RepairAction) → n ≡ 0 → Lists acts n l → isNone l ≡ true
-none-of acts n [] e g = refl
-none-of acts n (x ∷ l) e g = absurd (let z = ap length (sym (ap (λ (k : ℕ). take k acts) e) ∙ g) in omega (arith, z))
-
-some-of : (acts : List (List ℕ)) (n : ℕ) (l : List RepairAction) → (n ≡ 0 → ⊥) → 0 < length acts → Lists acts n l → isNone l ≡ false
-some-of acts n (x ∷ l) e h g = refl
-some-of acts zero [] e h g = absurd (e refl)
-some-of [] (suc n) [] e h g = absurd (omega arith)
-some-of (a ∷ acts) (suc n) [] e h g = absurd (let z = ap length g in omega (arith, z))
 
 -- the heads tell whether a list is over 16
 pub plain-over : (hs xs : List (List ℕ)) (ss ms : List (List Float)) → Plain hs xs ss ms → anyOf overHead hs ≡ anyOf overOf hs
@@ -68,45 +55,11 @@ module _ (root v : ℕ) (hs xs : List (List ℕ)) (ss ms : List (List Float)) (P
   pub over-still : anyOf overHead hs ≡ true → false ≡ isStill (repair a)
   over-still e = sym (ap isStill (repair-over a (sym (plain-over hs xs ss ms P) ∙ e)))
 
-  module _ (few : anyOf overHead hs ≡ false) (seen : List ℕ) (acts : List (List ℕ)) (D : Cols) (k : Kept) (W : Walked (start hs xs ss ms seen acts) D k root) where
-    abbrev o : Out
-    o = normalizeNode 64 (a .root) (begin (a .nodes))
-
-    abbrev C : Cols
-    C = start hs xs ss ms seen acts
-
-    given-whole : a .over ≡ false
-    given-whole = sym (plain-over hs xs ss ms P) ∙ few
-
-    long : length (a .nodes) ≡ 64
-    long = plain-long hs xs ss ms P
-
-    shown : Shows C (begin (a .nodes))
-    shown = start-shows hs xs ss ms seen acts (a .nodes) refl
-
-    told : (q : Kept) → k ≡ q → Walked C D q root
-    told q e = subst (λ (x : Kept). Walked C D x root) e W
-
-    pub gone-still : k ≡ Gone → false ≡ isStill (repair a)
-    gone-still e = sym (still-gone a long given-whole ((told Gone e) .right (begin (a .nodes)) shown 64 (omega arith) .0))
-
-    pub wide-still : k ≡ Wide → false ≡ isStill (repair a)
-    wide-still e = sym (still-wide a long given-whole ((told Wide e) .right (begin (a .nodes)) shown 64 (omega arith)))
-
-    kept-is : (s : ℕ) → k ≡ At s → (b : Bool) → (Lists (D .acts) (D .counts .acts) (o .work .actions) → isNone (o .work .actions) ≡ b) → (b && noneLost (D .claimed) (nodesIn D)) ≡ isStill (repair a)
-    kept-is s e b f =
-        let X = told (At s) e in
-        let (u, S) = X .right (begin (a .nodes)) shown 64 (omega arith) in
-        sym (still-kept a long given-whole (tile s) u (ap (anyOf wideNode) (S .nodes) ∙ narrow-in D (X .sized)) ∙ (λ z. f (S .actions) z && noneLost (S .claimed z) (S .nodes z)))
-
-    pub kept-still : (s : ℕ) → k ≡ At s → D .counts .acts ≡ 0 → (r : Bool) → NoneLost (D .heads) (D .claimed) r → r ≡ isStill (repair a)
-    kept-still s e z r N =
-        let X = told (At s) e in
-        N .right (D .ids) (D .shares) (D .minima) (X .sized .ids) (X .sized .shares) (X .sized .minima)
-        ∙ kept-is s e true (λ g. none-of (D .acts) (D .counts .acts) (o .work .actions) z g)
-
-    pub kept-noted : (s : ℕ) → k ≡ At s → (D .counts .acts ≡ 0 → ⊥) → 0 < length (D .acts) → false ≡ isStill (repair a)
-    kept-noted s e z h = kept-is s e false (λ g. some-of (D .acts) (D .counts .acts) (o .work .actions) z h g)
+  -- the walk that only reads tells it
+  pub calm-tells : anyOf overHead hs ≡ false → (r : Bool) → r ≡ calmArena a → r ≡ isStill (repair a)
+  calm-tells few r e =
+      let slim = start-sized hs xs ss ms [] [] (P .heads) (P .ids) (P .shares) (P .minima) (slim-heads hs few) in
+      e ∙ sym (calm-still a (plain-long hs xs ss ms P) (sym (plain-over hs xs ss ms P) ∙ few) (narrow-in (start hs xs ss ms [] []) slim))
 
   pub still-sound : (b : Bool) → b ≡ isStill (repair a) → (b || loneEmptyRoot a) ≡ sound a
   still-sound b e = ap (λ (x : Bool). x || loneEmptyRoot a) e ∙ sym (sound-is a (plain-long hs xs ss ms P))

@@ -123,13 +123,13 @@ pub fn repair(t: TileTree) -> Repairing
     packed(t, s, &heads, &ids, &shares, &minima, &acts)
 }
 
-// Whether the walk of columns keeps the root, notes nothing and leaves no occupied slot out.
+// Whether repair would list nothing of the arena that columns show: by a walk that only reads them.
 fn is_still(
     root: u64,
-    heads: &mut [[u64; 8]; 64],
-    ids: &mut [[u64; 16]; 64],
-    shares: &mut [[f64; 16]; 64],
-    minima: &mut [[f64; 16]; 64],
+    heads: &[[u64; 8]; 64],
+    ids: &[[u64; 16]; 64],
+    shares: &[[f64; 16]; 64],
+    minima: &[[f64; 16]; 64],
 ) -> bool
     requires { ⌜ Plain (now heads) (now ids) (now shares) (now minima) ⌝ }
     ensures { λ r. ⌜ ((v : ℕ) → r ≡ isStill (Rule.repair (arenaFrom root v (now (heads .entry)) (now (ids .entry)) (now (shares .entry)) (now (minima .entry))))) ⌝ }
@@ -137,37 +137,10 @@ fn is_still(
     if unpack::heads_over(heads) {
         return false;
     }
-    let mut claimed = [false; 64];
-    let mut seen = [0u64; 1024];
-    let mut acts = [[0u64; 3]; 1300];
-    let w = nodes::normalize_node(
-        heads,
-        ids,
-        shares,
-        minima,
-        &mut claimed,
-        &mut seen,
-        &mut acts,
-        Counts { seen: 0, acts: 0 },
-        root,
-    );
-    actions::sized(&acts);
-    let c = w.counts;
-    let kept = w.kept;
-    match kept {
-        Kept::At(_) => {
-            if c.acts == 0 {
-                sweep::none_lost(heads, &claimed)
-            } else {
-                false
-            }
-        }
-        Kept::Gone => false,
-        Kept::Wide => false,
-    }
+    calm::whole::calm_columns(root, heads, ids, shares, minima)
 }
 
-// Whether repair would leave the arena that columns show as it is, or it is the lone empty root. The walk goes over copies.
+// Whether repair would leave the arena that columns show as it is, or it is the lone empty root.
 pub fn sound_columns(
     root: u64,
     heads: &[[u64; 8]; 64],
@@ -178,11 +151,7 @@ pub fn sound_columns(
     requires { ⌜ Plain (now heads) (now ids) (now shares) (now minima) ⌝ }
     ensures { λ r. ⌜ ((v : ℕ) → r ≡ sound (arenaFrom root v (now (heads .entry)) (now (ids .entry)) (now (shares .entry)) (now (minima .entry)))) ⌝ }
 {
-    let mut h = *heads;
-    let mut x = *ids;
-    let mut s = *shares;
-    let mut m = *minima;
-    if is_still(root, &mut h, &mut x, &mut s, &mut m) {
+    if is_still(root, heads, ids, shares, minima) {
         return true;
     }
     lone::lone_empty_root(root, heads, ids, shares, minima)

@@ -1,4 +1,4 @@
--- `repair::whole::sound_columns` meets its contract: the walk of the copies lists nothing, or it is the lone empty root. Assumes nothing.
+-- `repair::whole::sound_columns` meets its contract: the walk lists nothing, or it is the lone empty root. Assumes nothing.
 use mathlib.Core.Path.{sym, _∙_}
 use mathlib.Core.Bool.{true, false}
 use Rattle.repair.proofs.StillLaws.{still-sound}
@@ -11,7 +11,7 @@ is-still-requires c κs = search needs
 
 returns : tie.Need-returns
 returns c =
-    let st = c .before .before .before .before .before .before .before .before .before .before in
+    let st = c .before .before in
     let x = st .args in
     λ v. still-sound (x .root) v (x .heads .now) (x .ids .now) (x .shares .now) (x .minima .now) (st .pre) true (sym (c .if1 .taken) ∙ c .before .is-still .ensures v)
 
@@ -20,7 +20,7 @@ lone-empty-root-requires c κs = search needs
 
 returns-2 : tie.Need-returns-2
 returns-2 c =
-    let st = c .before .before .before .before .before .before .before .before .before .before .before in
+    let st = c .before .before .before in
     let x = st .args in
     λ v. c .lone-empty-root .ensures v
     ∙ still-sound (x .root) v (x .heads .now) (x .ids .now) (x .shares .now) (x .minima .now) (st .pre) false (sym (c .before .if1 .left) ∙ c .before .before .is-still .ensures v)

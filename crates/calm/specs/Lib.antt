@@ -1,0 +1,4 @@
+pub mod Calm
+pub mod Tracks
+pub mod Whole
+pub mod Reads
