@@ -15,8 +15,8 @@ use Rattle.rules.specs.declared.refusal.Answer.{Answer}
 use Rattle.rules.specs.declared.refusal.Answer.the-variants.{Accepted, Refused}
 use Rattle.rules.specs.declared.refusal.Refusal.{Refusal}
 use Rattle.rules.specs.declared.refusal.Refusal.the-variants.{BadTable, ArenaFull, TooWide}
-use Rattle.spec.specs.Rows.{rowsAt, tableOf, Tabled}
-use Rattle.spec.specs.declared.table.Places.{Places}
+use Rattle.table.specs.Rows.{rowsAt, tableOf, Tabled}
+use Rattle.table.specs.declared.sections.Places.{Places}
 
 abbrev pub draftChecked : Option Refusal → Table → Built
 draftChecked (some e) t = refusedSpec e

@@ -16,13 +16,13 @@ use Rattle.rules.specs.declared.model.Slot.{Slot}
 use Rattle.rules.specs.declared.refusal.Answer.the-variants.{Accepted}
 use Rattle.rules.specs.declared.refusal.Refusal.{Refusal}
 use Rattle.rules.specs.declared.refusal.Refusal.the-variants.{BadTable, ArenaFull, TooWide}
-use Rattle.spec.specs.Rows.{rowFrom, rowsAt, tableOf, Tabled}
-use Rattle.spec.specs.Entries.{length-entries}
-use Rattle.spec.specs.Push.{Ready, Pushed}
-use Rattle.spec.specs.Slots.{SlotIs, Slotted, SlotsAre}
-use Rattle.spec.specs.SlotsLoop.{fit-rows, any-replicate, map-replicate-as, any-set, map-set}
+use Rattle.table.specs.Rows.{rowFrom, rowsAt, tableOf, Tabled}
+use Rattle.checks.specs.Entries.{length-entries}
+use Rattle.build.specs.Push.{Ready, Pushed}
+use Rattle.build.specs.Slots.{SlotIs, Slotted, SlotsAre}
+use Rattle.build.specs.SlotsLoop.{fit-rows, any-replicate, map-replicate-as, any-set, map-set}
 use Rattle.spec.specs.Draft.{Passed, draftChecked, draftNarrow, draftWithin, draftTabled, draftOf}
-use Rattle.spec.specs.declared.table.Places.{Places}
+use Rattle.table.specs.declared.sections.Places.{Places}
 
 -- ---- the refused tree
 

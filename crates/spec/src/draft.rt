@@ -1,13 +1,10 @@
 // A spec's tree before its repair: the Rust's `from_spec` (tree.rs) up to `normalize`, with document 01's refusals in their order.
-use crate::entry::too_wide;
-use crate::preorder::read_table;
-use crate::push::push_spec;
-use crate::slot::empty_slot;
-use crate::slots::slots_of;
-use crate::table::Places;
-use crate::table::Sections;
-use crate::validate::Checked;
-use crate::validate::check_rows;
+use build::push::push_spec;
+use build::slot::empty_slot;
+use build::slots::slots_of;
+use checks::entry::too_wide;
+use checks::validate::Checked;
+use checks::validate::check_rows;
 use rules::model::Kind;
 use rules::model::Slot;
 use rules::model::TabBarPlacement;
@@ -15,11 +12,14 @@ use rules::model::TileId;
 use rules::model::TileTree;
 use rules::refusal::Answer;
 use rules::refusal::Refusal;
+use table::preorder::read_table;
+use table::sections::Places;
+use table::sections::Sections;
 ghost use mathlib.Core.Path.{_≡_};
 ghost use Rattle.rules.specs.Tree.{view, arena, tile, emptyGroup};
 ghost use Rattle.rules.specs.Spec.{builtNodes, refusedSpec};
-ghost use Rattle.spec.specs.Rows.{tableOf};
-ghost use Rattle.spec.specs.Slots.{SlotIs};
+ghost use Rattle.table.specs.Rows.{tableOf};
+ghost use Rattle.build.specs.Slots.{SlotIs};
 ghost use Rattle.spec.specs.Draft.{Passed, Drafted, draftOf};
 
 pub struct Draft {

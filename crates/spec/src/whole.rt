@@ -4,7 +4,6 @@ use crate::draft::build;
 use crate::draft::refused;
 use rules::model::TileTree;
 use rules::refusal::Answer;
-ghost use mathlib.Core.Path.{_≡_};
 ghost use Rattle.rules.specs.Tree.{view};
 ghost use Rattle.rules.specs.Spec.{fromSpec};
 ghost use Rattle.spec.specs.Draft.{Drafted};

@@ -2,12 +2,12 @@
 use mathlib.Core.Path.{ap, sym, subst, _∙_}
 use borrow.Author.Needs.{needs}
 use Rattle.rules.specs.Spec.{Built}
-use Rattle.spec.specs.LoadLaws.{panes-few}
-use Rattle.spec.specs.Rows.{TableIs}
-use Rattle.spec.specs.Checks.{checkedAs}
+use Rattle.checks.specs.LoadLaws.{panes-few}
+use Rattle.table.specs.Rows.{TableIs}
+use Rattle.checks.specs.Checks.{checkedAs}
 use Rattle.spec.specs.Draft.{Drafted}
 use Rattle.spec.specs.DraftLaws.{draft-bad, draft-full, draft-wide, draft-refused, draft-built, passed}
-use Rattle.spec.specs.declared.table.Sections.{Sections}
+use Rattle.table.specs.declared.sections.Sections.{Sections}
 use Rattle.spec.proofs.draft.build.Statement.{statement}
 use Rattle.spec.proofs.draft.build.Tie as tie
 

@@ -5,7 +5,7 @@ use Prim.Native.Nat.{ℕ}
 use borrow.Author.Needs.{needs}
 use Rattle.rules.specs.Tree.{tabs}
 use Rattle.rules.specs.declared.model.TabBarPlacement.the-variants.{Hidden}
-use Rattle.spec.specs.SlotLaws.{not-over}
+use Rattle.build.specs.SlotLaws.{not-over}
 use Rattle.spec.proofs.draft.group_slot.Statement.{statement}
 use Rattle.spec.proofs.draft.group_slot.Tie as tie
 
