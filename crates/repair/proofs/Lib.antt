@@ -1,3 +1,5 @@
 pub mod LoneLaws
-pub mod WholeLaws
+pub mod StartLaws
 pub mod StillLaws
+pub mod SettleLaws
+pub mod PackedLaws

@@ -30,7 +30,7 @@ use Rattle.normalize.specs.declared.Kept.the-variants.{At, Gone, Wide}
 use Rattle.columns.specs.PackLaws.{or-left, or-right, heads-over}
 use Rattle.columns.specs.OverLaws.{any-alike}
 use Rattle.columns.specs.ColumnLaws.{nodes-long}
-use Rattle.repair.proofs.WholeLaws.{narrow-in, start, start-shows, heads-long, ids-long, shares-long, minima-long, columns-show}
+use Rattle.repair.proofs.StartLaws.{narrow-in, start, start-shows, heads-long, ids-long, shares-long, minima-long, columns-show}
 
 -- heads whose lengths are 16 at most
 slim-by : (h : List ℕ) → overHead h ≡ false → Slim h

@@ -1,24 +1,23 @@
--- What a whole repair promises, and what stands of it once the walk has ended. Definitions only.
+-- What a whole repair of a tree promises, the arena that columns show, and how the one goes by the other. Definitions only.
 use mathlib.Core.Path.{_≡_}
-use mathlib.Core.Bool.{Bool, true, _&&_}
+use mathlib.Core.Bool.{Bool, _&&_}
 use mathlib.Core.List.{List, [], map}
-use Prim.Native.Nat.{ℕ, _≤_, _<_}
+use Prim.Native.Nat.{ℕ, _<_}
 use lib.Dec.{eqb}
-use lib.ListN.{length, getD, set}
+use lib.ListN.{length, getD}
 use lib.Ieee.{Float}
 use Rattle.rules.specs.Lists.{anyOf}
-use Rattle.rules.specs.Tree.{Node, Arena, arena, tile, setNode, emptyGroup, view}
+use Rattle.rules.specs.Tree.{Arena, tile, view}
 use Rattle.rules.specs.Repair.{Repaired, repair}
 use Rattle.rules.specs.declared.model.TileTree.{TileTree}
 use Rattle.rules.specs.declared.model.RepairAction.{RepairAction}
 use Rattle.rules.specs.declared.refusal.Answer.the-variants.{Accepted, Refused}
 use Rattle.rules.specs.declared.refusal.Refusal.{Refusal}
-use Rattle.rules.specs.declared.refusal.Refusal.the-variants.{ArenaFull}
 use Rattle.forest.specs.Lists.{All}
-use Rattle.forest.specs.Sweep.{sweptBy, actionsBy}
 use Rattle.forest.specs.Finish.{normalized}
 use Rattle.columns.specs.Columns.{nodesFrom, Lists}
 use Rattle.columns.specs.Pack.{overHead, overOf, Unpacks, firstOf, reported}
+use Rattle.repair.specs.declared.Settled.{Settled}
 use Rattle.repair.specs.declared.Repairing.{Repairing}
 
 -- what a repair answered, as the rule has it
@@ -55,18 +54,15 @@ pub record Normalizes (t : TileTree) (spare : ℕ) (r : Repairing) : Type 0 wher
   pub right : (free : List ℕ) → All (λ i. i < 64) free → spare ≡ firstOf free → repaired r ≡ normalized (view t) free
   pub given : (e : Refusal) → r .answer ≡ Refused e → r .tree ≡ t
 
-pub record Refuses (t : TileTree) (e : Refusal) (r : Repairing) : Type 0 where
+-- refused, with the tree as it was given
+pub record Returns (t : TileTree) (e : Refusal) (r : Repairing) : Type 0 where
   pub answer : r .answer ≡ Refused e
   pub tree : r .tree ≡ t
   pub actions : reported (r .actions) ≡ []
 
--- the slots were swept by the claims and packed under a root, and the actions reported
-pub record Finishes (ns : List Node) (cs : List Bool) (acts : List (List ℕ)) (n revision root : ℕ) (r : Repairing) : Type 0 where
-  pub answer : r .answer ≡ Accepted
-  pub tree : view (r .tree) ≡ arena (tile root) revision (sweptBy cs ns)
-  pub actions : (l : List RepairAction) → Lists acts n l → reported (r .actions) ≡ actionsBy 0 cs ns l
-
--- nothing was kept: a fresh root goes into the spare slot, where there is one
-pub record Plants (t : TileTree) (ns : List Node) (cs : List Bool) (acts : List (List ℕ)) (n spare : ℕ) (r : Repairing) : Type 0 where
-  pub full : 64 ≤ spare → Refuses t ArenaFull r
-  pub fresh : spare < 64 → Finishes (setNode (tile spare) emptyGroup ns) (set cs spare true) acts n (t .revision) spare r
+-- what a repair of a tree's columns came to, as a tree and a report
+pub record Packs (t : TileTree) (s : Settled) (hs xs : List (List ℕ)) (ss ms : List (List Float)) (acts : List (List ℕ)) (r : Repairing) : Type 0 where
+  pub answer : r .answer ≡ s .answer
+  pub tree : s .answer ≡ Accepted → view (r .tree) ≡ arenaFrom (s .root) (t .revision) hs xs ss ms
+  pub actions : s .answer ≡ Accepted → (l : List RepairAction) → Lists acts (s .count) l → reported (r .actions) ≡ l
+  pub given : (e : Refusal) → s .answer ≡ Refused e → (r .tree ≡ t) × (reported (r .actions) ≡ [])

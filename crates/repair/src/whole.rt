@@ -1,6 +1,8 @@
 // The whole of a repair: the Rust's repair and normalize_with_report, and soundness by it.
 use crate::Repairing;
+use crate::Settled;
 use crate::lone;
+use crate::settle;
 use columns::actions;
 use columns::listing;
 use columns::pack;
@@ -14,22 +16,20 @@ use rules::model::TileId;
 use rules::model::TileTree;
 use rules::refusal::Answer;
 use rules::refusal::Refusal;
-ghost use mathlib.Core.List.{[]};
 ghost use mathlib.Core.Path.{_≡_};
 ghost use mathlib.Core.Bool.{Bool};
-ghost use Prim.Native.Nat.{ℕ, _+_, _≤_};
-ghost use lib.ListN.{length, getD};
+ghost use Prim.Native.Nat.{ℕ};
 ghost use Rattle.rules.specs.Lists.{anyOf};
 ghost use Rattle.rules.specs.Tree.{view, overSlot};
 ghost use Rattle.rules.specs.Repair as Rule;
 ghost use Rattle.rules.specs.Sound.{sound};
 ghost use Rattle.forest.specs.Still.{isStill};
 ghost use Rattle.rules.specs.declared.refusal.Answer.the-variants as Answers;
-ghost use Rattle.columns.specs.Columns.{nodesFrom, Slim};
-ghost use Rattle.repair.specs.Whole.{repaired, Columned, arenaFrom, Plain, Normalizes, Refuses, Finishes, Plants};
+ghost use Rattle.repair.specs.Whole.{repaired, arenaFrom, Plain, Normalizes, Returns, Packs};
+ghost use Rattle.repair.specs.Settle.{Left};
 
 fn refused(t: TileTree, e: Refusal) -> Repairing
-    ensures { λ r. ⌜ Refuses t e r ⌝ }
+    ensures { λ r. ⌜ Returns t e r ⌝ }
 {
     let actions = listing::no_report();
     Repairing {
@@ -39,124 +39,37 @@ fn refused(t: TileTree, e: Refusal) -> Repairing
     }
 }
 
-// The sweep, the slots packed under the root, and the report.
-fn finish(
-    heads: &mut [[u64; 8]; 64],
+// What a repair of a tree's columns came to, as a tree and a report. A refused tree is the tree given.
+fn packed(
+    t: TileTree,
+    s: Settled,
+    heads: &[[u64; 8]; 64],
     ids: &[[u64; 16]; 64],
     shares: &[[f64; 16]; 64],
     minima: &[[f64; 16]; 64],
-    claimed: &[bool; 64],
-    acts: &mut [[u64; 3]; 1300],
-    n: usize,
-    revision: u64,
-    root: u64,
+    acts: &[[u64; 3]; 1300],
 ) -> Repairing
-    requires { ⌜ (length (now heads) ≡ 64) × (length (now ids) ≡ 64) × (length (now shares) ≡ 64) × (length (now minima) ≡ 64) × (length (now claimed) ≡ 64) × ((i : ℕ) → Slim (getD (now heads) i [])) × (n + 64 ≤ 1300) ⌝ }
-    ensures { λ r. ⌜ Finishes (nodesFrom (now (heads .entry)) (now (ids .entry)) (now (shares .entry)) (now (minima .entry))) (now (claimed .entry)) (now (acts .entry)) n revision root r ⌝ }
+    requires { ⌜ Left (now heads) (now ids) (now shares) (now minima) s ⌝ }
+    ensures { λ r. ⌜ Packs t s (now (heads .entry)) (now (ids .entry)) (now (shares .entry)) (now (minima .entry)) (now (acts .entry)) r ⌝ }
 {
-    let m = sweep::sweep(heads, claimed, acts, n);
-    let slots = pack::pack(heads, ids, shares, minima);
-    let actions = listing::report(acts, m);
-    let top = TileId { slot: root };
-    let tree = TileTree {
-        root: top,
-        revision,
-        slots,
-    };
-    Repairing {
-        answer: Answer::Accepted,
-        tree,
-        actions,
-    }
-}
-
-// Nothing was kept: an empty Hidden group in the spare slot becomes the root; 64 stands for no slot.
-fn plant(
-    t: TileTree,
-    heads: &mut [[u64; 8]; 64],
-    ids: &[[u64; 16]; 64],
-    shares: &[[f64; 16]; 64],
-    minima: &[[f64; 16]; 64],
-    claimed: &mut [bool; 64],
-    acts: &mut [[u64; 3]; 1300],
-    n: usize,
-    spare: u64,
-) -> Repairing
-    requires { ⌜ (length (now heads) ≡ 64) × (length (now ids) ≡ 64) × (length (now shares) ≡ 64) × (length (now minima) ≡ 64) × (length (now claimed) ≡ 64) × ((i : ℕ) → Slim (getD (now heads) i [])) × (n + 64 ≤ 1300) ⌝ }
-    ensures { λ r. ⌜ Plants t (nodesFrom (now (heads .entry)) (now (ids .entry)) (now (shares .entry)) (now (minima .entry))) (now (claimed .entry)) (now (acts .entry)) n spare r ⌝ }
-{
-    if 64 <= spare {
-        return refused(t, Refusal::ArenaFull);
-    }
-    let i = spare as usize;
-    heads[i] = [2u64, 0, 0, 0, 0, 0, 0, 0];
-    claimed[i] = true;
-    finish(
-        heads,
-        ids,
-        shares,
-        minima,
-        claimed,
-        acts,
-        n,
-        t.revision,
-        spare,
-    )
-}
-
-// normalize_with_report of the columns of a tree, whose lists are all there.
-fn settle(
-    t: TileTree,
-    spare: u64,
-    heads: &mut [[u64; 8]; 64],
-    ids: &mut [[u64; 16]; 64],
-    shares: &mut [[f64; 16]; 64],
-    minima: &mut [[f64; 16]; 64],
-) -> Repairing
-    requires { ⌜ Columned t (now heads) (now ids) (now shares) (now minima) × (anyOf overSlot (t .slots) ≡ Bool.false) ⌝ }
-    ensures { λ r. ⌜ Normalizes t spare r ⌝ }
-{
-    let top = t.root;
-    let mut claimed = [false; 64];
-    let mut seen = [0u64; 1024];
-    let mut acts = [[0u64; 3]; 1300];
-    let w = nodes::normalize_node(
-        heads,
-        ids,
-        shares,
-        minima,
-        &mut claimed,
-        &mut seen,
-        &mut acts,
-        Counts { seen: 0, acts: 0 },
-        top.slot,
-    );
-    let c = w.counts;
-    let kept = w.kept;
-    match kept {
-        Kept::At(root) => finish(
-            heads,
-            ids,
-            shares,
-            minima,
-            &claimed,
-            &mut acts,
-            c.acts,
-            t.revision,
-            root,
-        ),
-        Kept::Gone => plant(
-            t,
-            heads,
-            ids,
-            shares,
-            minima,
-            &mut claimed,
-            &mut acts,
-            c.acts,
-            spare,
-        ),
-        Kept::Wide => refused(t, Refusal::TooWide),
+    let answer = s.answer;
+    match answer {
+        Answer::Accepted => {
+            let slots = pack::pack(heads, ids, shares, minima);
+            let actions = listing::report(acts, s.count);
+            let root = TileId { slot: s.root };
+            let tree = TileTree {
+                root,
+                revision: t.revision,
+                slots,
+            };
+            Repairing {
+                answer: Answer::Accepted,
+                tree,
+                actions,
+            }
+        }
+        Answer::Refused(e) => refused(t, e),
     }
 }
 
@@ -167,12 +80,23 @@ pub fn normalize_with_report(t: TileTree, spare: u64) -> Repairing
 {
     let slots = t.slots;
     slots::sized(slots);
+    let top = t.root;
     let mut heads = [[0u64; 8]; 64];
     let mut ids = [[0u64; 16]; 64];
     let mut shares = [[0.0f64; 16]; 64];
     let mut minima = [[0.0f64; 16]; 64];
+    let mut acts = [[0u64; 3]; 1300];
     unpack::unpack(slots, &mut heads, &mut ids, &mut shares, &mut minima);
-    settle(t, spare, &mut heads, &mut ids, &mut shares, &mut minima)
+    let s = settle::settle(
+        top.slot,
+        spare,
+        &mut heads,
+        &mut ids,
+        &mut shares,
+        &mut minima,
+        &mut acts,
+    );
+    packed(t, s, &heads, &ids, &shares, &minima, &acts)
 }
 
 // Repairs any arena. A list given too long is refused before anything else.
@@ -181,16 +105,22 @@ pub fn repair(t: TileTree) -> Repairing
 {
     let slots = t.slots;
     slots::sized(slots);
+    let top = t.root;
     let mut heads = [[0u64; 8]; 64];
     let mut ids = [[0u64; 16]; 64];
     let mut shares = [[0.0f64; 16]; 64];
     let mut minima = [[0.0f64; 16]; 64];
+    let mut acts = [[0u64; 3]; 1300];
     unpack::unpack(slots, &mut heads, &mut ids, &mut shares, &mut minima);
-    if unpack::heads_over(&heads) {
-        return refused(t, Refusal::TooWide);
-    }
-    let spare = sweep::first_empty(&heads);
-    settle(t, spare, &mut heads, &mut ids, &mut shares, &mut minima)
+    let s = settle::repair_columns(
+        top.slot,
+        &mut heads,
+        &mut ids,
+        &mut shares,
+        &mut minima,
+        &mut acts,
+    );
+    packed(t, s, &heads, &ids, &shares, &minima, &acts)
 }
 
 // Whether the walk of columns keeps the root, notes nothing and leaves no occupied slot out.
@@ -258,6 +188,7 @@ pub fn sound_columns(
     lone::lone_empty_root(root, heads, ids, shares, minima)
 }
 
+// Whether a tree is sound, as document 01 has it: every operation and every layout asks it first. The Rust has no such call.
 pub fn is_sound(t: TileTree) -> bool
     ensures { λ r. ⌜ r ≡ sound (view t) ⌝ }
 {

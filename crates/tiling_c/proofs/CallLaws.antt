@@ -17,6 +17,7 @@ use Rattle.rules.specs.Frame.{Laid, layout}
 use Rattle.rules.specs.Solver.{Solved, viewSolution}
 use Rattle.rules.specs.Refusals.{refusalOf, answerOf}
 use Rattle.rules.specs.declared.model.TileTree.{TileTree}
+use Rattle.rules.specs.declared.model.RepairAction.{RepairAction}
 use Rattle.rules.specs.declared.operation.TileOp.{TileOp}
 use Rattle.rules.specs.declared.frame.LayoutInput.{LayoutInput}
 use Rattle.rules.specs.declared.solving.Solution.{Solution}
@@ -24,17 +25,18 @@ use Rattle.rules.specs.declared.refusal.Answer.{Answer}
 use Rattle.rules.specs.declared.refusal.Answer.the-variants.{Accepted, Refused}
 use Rattle.rules.specs.declared.refusal.Refusal.{Refusal}
 use Rattle.rules.specs.declared.refusal.Refusal.the-variants.{BadTable, ArenaFull, TooWide, NotSound, BadInput, InvalidTileId, InvalidPaneId, InvalidTarget, InvalidOperation, DuplicatePane, RevisionExhausted, EmptyTabs, TooFewSplitChildren, ShareCountMismatch, InvalidShare, TooManySplitConstraints, InvalidSplitConstraint, InvalidActiveTab}
-use Rattle.columns.specs.Pack.{reported}
+use Rattle.columns.specs.Columns.{Lists}
 use Rattle.spec.specs.Draft.{Drafted}
-use Rattle.repair.specs.Whole.{repaired}
-use Rattle.repair.specs.declared.Repairing.{Repairing}
+use Rattle.repair.specs.Whole.{arenaFrom}
+use Rattle.repair.specs.Settle.{Comes}
+use Rattle.repair.specs.declared.Settled.{Settled}
 use Rattle.ops.specs.Steps.{applied}
 use Rattle.ops.specs.declared.Applying.{Applying}
 use Rattle.layout.specs.Whole.{LaysOut}
 use Rattle.layout.specs.declared.LaidOut.{LaidOut}
 use Rattle.solver.specs.Call.{Clear}
-use Rattle.tiling_c.specs.Lent.{Lot, lent, lotOk, opOk, opFrom, inputFrom}
-use Rattle.tiling_c.specs.Parts.{Tells, Holds, Keeps, Writes, Fills}
+use Rattle.lending.specs.Lent.{Lot, lent, lotOk, opOk, opFrom, inputFrom}
+use Rattle.lending.specs.Parts.{Tells, Holds, Keeps, Writes, Fills}
 use Rattle.tiling_c.specs.Calls.{Builds, Mends, Repairs, soundCode, Changes, Applies, LaysInto, Solves}
 
 -- ---- the number is 0 where it is accepted, and nowhere else
@@ -83,18 +85,21 @@ builds bs a t l′ out′ n D H T =
 pub repairs-bad : (l : Lot) (acts : List (List ℕ)) (out : List ℕ) → lotOk l ≡ false → Repairs l acts out l acts out 5
 repairs-bad l acts out b = record { bad = λ e. (refl, refl, refl, refl); good = λ e. absurd (no-both (lotOk l) b e) }
 
-pub repairs-good : (l : Lot) (acts : List (List ℕ)) (out : List ℕ) (t : TileTree) (d : Repairing) (l′ : Lot) (acts′ : List (List ℕ)) (out′ : List ℕ) (n count : ℕ) → lotOk l ≡ true
-    → view t ≡ lent l → repaired d ≡ repair (view t) → Writes (reported (d .actions)) acts acts′ count → Tells (d .answer) count 0 out′ n → Keeps n (view (d .tree)) l l′
-    → Repairs l acts out l′ acts′ out′ n
-repairs-good l acts out t d l′ acts′ out′ n count g v r W T K =
+-- a is the arena lent, and x the rule's answer for it
+pub repairs-good : (l : Lot) (acts : List (List ℕ)) (out : List ℕ) (a : Arena) (hs xs : List (List ℕ)) (ss ms : List (List Float)) (list : List (List ℕ)) (d : Settled) (l′ : Lot) (acts′ : List (List ℕ)) (out′ : List ℕ) (n : ℕ) → lotOk l ≡ true
+    → a ≡ lent l → Comes a (repair a) hs xs ss ms list d → ((k : List RepairAction) → Lists list (d .count) k → Writes k acts acts′ (d .count)) → Tells (d .answer) (d .count) 0 out′ n
+    → Keeps n (arenaFrom (d .root) (a .revision) hs xs ss ms) l l′ → Repairs l acts out l′ acts′ out′ n
+repairs-good l acts out a hs xs ss ms list d l′ acts′ out′ n g v C W T K =
+    let x = repair a in
+    let Y = W (x .actions) (C .actions) in
     record {
       bad = λ e. absurd (no-both (lotOk l) e g);
-      good = λ e. subst (λ (x : Repaired). Mends x l acts l′ acts′ out′ n) (r ∙ ap repair v)
+      good = λ e. subst (λ (y : Repaired). Mends y l acts l′ acts′ out′ n) (ap repair v)
           (record {
-            told = subst (λ (k : ℕ). Tells (d .answer) k 0 out′ n) (W .count) T;
-            accepted = λ a. K .stored (zero-accepted (d .answer) n (T .number) a);
-            refused = λ f q. K .left (not-refused (d .answer) n (T .number) f q);
-            actions = W .list;
+            told = subst (λ (k : ℕ). Tells (x .answer) k 0 out′ n) (Y .count) (subst (λ (y : Answer). Tells y (d .count) 0 out′ n) (C .answer) T);
+            accepted = λ p. let q = C .answer ∙ p in subst (λ (y : Arena). Holds y l′) (sym (C .tree q)) (K .stored (zero-accepted (d .answer) n (T .number) q));
+            refused = λ f p. K .left (not-refused (d .answer) n (T .number) f (C .answer ∙ p));
+            actions = Y .list;
           });
     }
 

@@ -1,4 +1,2 @@
-pub mod Lent
-pub mod Parts
 pub mod Calls
 pub mod Unique

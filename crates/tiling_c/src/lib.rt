@@ -2,19 +2,19 @@
 // An arena is `top` (root, revision) and the four columns of the crate columns. Each call returns document 01's number, 0 where it is accepted, and writes
 // `out`: the two details, and a count (actions, items of a frame, lengths) with what stands beside it. A number that is no kind, mode, axis, placement or
 // operation is refused with 5, and then nothing is written.
+use lending::actions;
+use lending::arena;
+use lending::back;
+use lending::codes;
+use lending::operation;
+use lending::solving;
+use lending::tidy;
+use lending::told;
 ghost use mathlib.Core.Path.{_≡_};
 ghost use Rattle.rules.specs.Sound.{sound};
 ghost use Rattle.rules.specs.Solver.{solve};
-ghost use Rattle.tiling_c.specs.Lent.{lot, lent, codesOk, realsOf};
+ghost use Rattle.lending.specs.Lent.{lot, lent, codesOk, realsOf};
 ghost use Rattle.tiling_c.specs.Calls.{Builds, Repairs, soundCode, Applies, LaysInto, Solves};
-
-pub mod actions;
-pub mod arena;
-pub mod codes;
-pub mod operation;
-pub mod solving;
-pub mod tidy;
-pub mod told;
 
 // What a number that names nothing is answered with: document 01's 'bad input'.
 const BAD_INPUT: u64 = 5;
@@ -55,14 +55,38 @@ pub extern "C" fn tiling_repair(
     if !codes::codes_ok(heads) {
         return BAD_INPUT;
     }
-    let t = arena::load(top, heads, ids, shares, minima);
-    let d = tiling::repair(t);
-    let report = d.actions;
-    let count = actions::write(report, acts);
+    arena::sized(heads, ids, shares, minima);
+    let mut plain = tidy::tidy(heads);
+    let mut rows = *ids;
+    let mut parts = *shares;
+    let mut least = *minima;
+    let mut list = [[0u64; 3]; 1300];
+    let words = *top;
+    let d = repair::settle::repair_columns(
+        words[0],
+        &mut plain,
+        &mut rows,
+        &mut parts,
+        &mut least,
+        &mut list,
+    );
     let answer = d.answer;
-    let n = told::tell(answer, count as u64, 0, out);
-    let tree = d.tree;
-    arena::keep(n, tree, top, heads, ids, shares, minima);
+    let n = told::tell(answer, d.count as u64, 0, out);
+    actions::write(&list, d.count, acts);
+    back::keep_columns(
+        n,
+        d.root,
+        words[1],
+        &plain,
+        &rows,
+        &parts,
+        &least,
+        top,
+        heads,
+        ids,
+        shares,
+        minima,
+    );
     n
 }
 

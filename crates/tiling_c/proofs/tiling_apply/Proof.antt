@@ -2,7 +2,7 @@
 use mathlib.Core.Path.{_≡_, sym, ap, _∙_}
 use mathlib.Core.Bool.{Bool, true, false, _&&_}
 use borrow.Author.Tests.{not-true, not-false}
-use Rattle.tiling_c.specs.Lent.{lot, lotOk, opOk}
+use Rattle.lending.specs.Lent.{lot, lotOk, opOk}
 use Rattle.tiling_c.proofs.CallLaws.{applies-bad, applies-good}
 use borrow.Author.Needs.{needs}
 use Rattle.tiling_c.proofs.tiling_apply.Statement.{statement}

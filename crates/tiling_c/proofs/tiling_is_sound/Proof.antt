@@ -3,10 +3,10 @@ use mathlib.Core.Path.{sym, _∙_}
 use mathlib.Core.Bool.{true, false}
 use lib.ListN.{getD}
 use borrow.Author.Tests.{not-true, not-false}
-use Rattle.tiling_c.specs.Lent.{lot, lent, codesOk}
+use Rattle.lending.specs.Lent.{lot, lent, codesOk}
 use Rattle.rules.specs.Sound.{sound}
 use Rattle.tiling_c.proofs.CallLaws.{sound-bad, sound-is}
-use Rattle.tiling_c.proofs.TidyLaws.{tidy-lent, tidy-plain}
+use Rattle.lending.proofs.TidyLaws.{tidy-lent, tidy-plain}
 use borrow.Author.Needs.{needs}
 use Rattle.tiling_c.proofs.tiling_is_sound.Statement.{statement}
 use Rattle.tiling_c.proofs.tiling_is_sound.Tie as tie

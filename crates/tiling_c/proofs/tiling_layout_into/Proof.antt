@@ -1,9 +1,9 @@
 -- `tiling_c::tiling_layout_into`: codes that are none, or what the layout answered. Assumes nothing.
 use mathlib.Core.Path.{sym, _∙_}
 use borrow.Author.Tests.{not-true, not-false}
-use Rattle.tiling_c.specs.Lent.{lot, lent}
+use Rattle.lending.specs.Lent.{lot, lent}
 use Rattle.tiling_c.proofs.CallLaws.{lays-bad, lays-good}
-use Rattle.tiling_c.proofs.TidyLaws.{tidy-lent, tidy-plain}
+use Rattle.lending.proofs.TidyLaws.{tidy-lent, tidy-plain}
 use borrow.Author.Needs.{needs}
 use Rattle.tiling_c.proofs.tiling_layout_into.Statement.{statement}
 use Rattle.tiling_c.proofs.tiling_layout_into.Tie as tie

@@ -1,7 +1,9 @@
--- `tiling_c::tiling_repair`: codes that are none, or what repair answered. Assumes nothing.
+-- `tiling_c::tiling_repair`: codes that are none, or what the repair of a copy of the columns came to. Assumes nothing.
 use mathlib.Core.Path.{sym, _∙_}
+use lib.ListN.{getD}
 use borrow.Author.Tests.{not-true, not-false}
-use Rattle.tiling_c.specs.Lent.{lot}
+use Rattle.lending.specs.Lent.{lot, lent}
+use Rattle.lending.proofs.TidyLaws.{tidy-lent, tidy-plain}
 use Rattle.tiling_c.proofs.CallLaws.{repairs-bad, repairs-good}
 use borrow.Author.Needs.{needs}
 use Rattle.tiling_c.proofs.tiling_repair.Statement.{statement}
@@ -16,32 +18,60 @@ returns c =
     let a = k .before .before .args in
     repairs-bad (lot (a .top .now) (a .heads .now) (a .ids .now) (a .shares .now) (a .minima .now)) (a .acts .now) (a .out .now) (sym (k .codes-ok .ensures) ∙ not-true (k .codes-ok .result) (c .if1 .taken))
 
-load-requires : tie.Need-load-requires
-load-requires c κs = search needs
+sized-requires : tie.Need-sized-requires
+sized-requires c κs = search needs
 
-repair-requires : tie.Need-repair-requires
-repair-requires c κs = search needs
+tidy-requires : tie.Need-tidy-requires
+tidy-requires c κs = search needs
 
-write-requires : tie.Need-write-requires
-write-requires c κs = search needs
+array-read-repair-columns : tie.Need-array-read-repair-columns
+array-read-repair-columns c = search needs
+
+repair-columns-requires : tie.Need-repair-columns-requires
+repair-columns-requires c κs =
+    let y = c .before .before .before .before .before .before .before .before .before in
+    let z = y .before .before in
+    let a = z .before .before .before .before .before .before .before .before .args in
+    tidy-plain (a .heads .now) (y .tidy .result) (a .ids .now) (a .shares .now) (a .minima .now) (y .tidy .ensures) (z .sized .ensures)
 
 tell-requires : tie.Need-tell-requires
 tell-requires c κs = search needs
 
-keep-requires : tie.Need-keep-requires
-keep-requires c κs = search needs
+write-requires : tie.Need-write-requires
+write-requires c κs = c .before .before .before .before .repair-columns .ensures .left .count
+
+array-read-keep-columns : tie.Need-array-read-keep-columns
+array-read-keep-columns c = search needs
+
+keep-columns-requires : tie.Need-keep-columns-requires
+keep-columns-requires c κs = search needs
 
 returns-2 : tie.Need-returns-2
 returns-2 c =
-    let t = c .before .before .before .before .before .before .before in
-    let w = t .before .before in
-    let r = w .before .before .before in
-    let l = r .before in
-    let e = l .before .before .before .before .before .before in
+    let w = c .before .before .before .before .before .before .before .before .before .before in
+    let t = w .before .before .before in
+    let r = t .before .before in
+    let y = r .before .before .before .before .before .before .before .before .before .before in
+    let z = y .before .before in
+    let e = z .before .before .before .before .before in
     let k = e .before in
     let a = k .before .before .args in
-    repairs-good (lot (a .top .now) (a .heads .now) (a .ids .now) (a .shares .now) (a .minima .now)) (a .acts .now) (a .out .now) (l .load .result) (r .repair .result) _ _ _ (t .tell .result) (w .write .result) (sym (k .codes-ok .ensures) ∙ not-false (k .codes-ok .result) (e .if1 .left))
-    (l .load .ensures) (r .repair .ensures .0) (w .write .ensures) (t .tell .ensures) (c .keep .ensures)
+    repairs-good (lot (a .top .now) (a .heads .now) (a .ids .now) (a .shares .now) (a .minima .now)) (a .acts .now) (a .out .now) (lent (lot (a .top .now) (y .tidy .result) (a .ids .now) (a .shares .now) (a .minima .now))) _ _ _ _ _ (r .repair-columns .result) _ _ _ (t .tell .result)
+    (sym (k .codes-ok .ensures) ∙ not-false (k .codes-ok .result) (e .if1 .left)) (tidy-lent (a .heads .now) (y .tidy .result) (a .ids .now) (a .shares .now) (a .minima .now) (y .tidy .ensures) (a .top .now))
+    (r .repair-columns .ensures .right (getD (a .top .now) 1 0)) (w .write .ensures) (t .tell .ensures) (c .keep-columns .ensures)
 
 pub tiling-repair-spec : {M : Type 1} → statement M
-tiling-repair-spec = tie.close (tie.spec codes-ok-requires returns load-requires repair-requires write-requires tell-requires keep-requires returns-2)
+tiling-repair-spec =
+    tie.close
+    (tie.spec
+    codes-ok-requires
+    returns
+    sized-requires
+    tidy-requires
+    array-read-repair-columns
+    repair-columns-requires
+    tell-requires
+    write-requires
+    array-read-keep-columns
+    keep-columns-requires
+    returns-2)

@@ -1,7 +1,7 @@
 -- `repair::whole::is_still` meets its contract: each end of the walk tells whether a repair would list anything. Assumes nothing.
 use mathlib.Core.Path.{sym, _∙_}
 use native.Mathlib.Omega.{arith}
-use Rattle.repair.proofs.WholeLaws.{start-sized}
+use Rattle.repair.proofs.StartLaws.{start-sized}
 use Rattle.repair.proofs.StillLaws.{slim-heads, over-still, kept-still, kept-noted, gone-still, wide-still}
 use borrow.Author.Needs.{needs}
 use Rattle.repair.proofs.whole.is_still.Statement.{statement}

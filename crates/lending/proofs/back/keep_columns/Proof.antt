@@ -1,0 +1,17 @@
+-- `lending::back::keep_columns` stores where the number is 0, and else leaves all as it was. Assumes nothing.
+use mathlib.Core.Path.{refl}
+use borrow.Author.Needs.{needs}
+use Rattle.lending.proofs.back.keep_columns.Statement.{statement}
+use Rattle.lending.proofs.back.keep_columns.Tie as tie
+
+returns : tie.Need-returns
+returns c = record { stored = λ e. absurd (c .if1 .taken e); left = λ n. refl }
+
+store-columns-requires : tie.Need-store-columns-requires
+store-columns-requires c κs = search needs
+
+returns-2 : tie.Need-returns-2
+returns-2 c = record { stored = λ e. c .store-columns .ensures; left = λ n. absurd (n (c .before .before .before .before .before .before .if1 .left)) }
+
+pub keep-columns-spec : {M : Type 1} → statement M
+keep-columns-spec = tie.close (tie.spec returns store-columns-requires returns-2)

@@ -1,0 +1,39 @@
+-- What the parts of a call promise: an answer told, an arena stored, actions written. Definitions only.
+use mathlib.Core.Path.{_≡_}
+use mathlib.Core.Bool.{true}
+use mathlib.Core.List.{List, _++_, map}
+use Prim.Native.Nat.{ℕ}
+use lib.ListN.{length, drop}
+use lib.Ieee.{Float}
+use Rattle.rules.specs.Tree.{Arena}
+use Rattle.rules.specs.Refusals.{answerOf}
+use Rattle.rules.specs.declared.model.RepairAction.{RepairAction}
+use Rattle.rules.specs.declared.refusal.Answer.{Answer}
+use Rattle.columns.specs.Columns.{codeOf}
+use Rattle.lending.specs.Lent.{Lot, lent, lotOk, outOf}
+
+-- an answer told: the number returned, and all of `out`
+pub record Tells (a : Answer) (c d : ℕ) (out : List ℕ) (r : ℕ) : Type 0 where
+  pub number : r ≡ answerOf a .number
+  pub words : out ≡ outOf (answerOf a) c d
+
+-- the arrays now hold this arena, in codes that every call takes
+pub record Holds (a : Arena) (l : Lot) : Type 0 where
+  pub arena : lent l ≡ a
+  pub codes : lotOk l ≡ true
+
+-- an arena is stored where the answer's number is 0, and else nothing is
+pub record Keeps (n : ℕ) (a : Arena) (l l′ : Lot) : Type 0 where
+  pub stored : n ≡ 0 → Holds a l′
+  pub left : (n ≡ 0 → ⊥) → l′ ≡ l
+
+-- actions written from the front of an array; past them it is as it was
+pub record Writes (l : List RepairAction) (acts acts′ : List (List ℕ)) (n : ℕ) : Type 0 where
+  pub count : n ≡ length l
+  pub list : acts′ ≡ map codeOf l ++ drop (length l) acts
+
+-- an array of 16 is replaced where the answer's number is 0, and else it is as it was
+pub record Fills (n : ℕ) (at xs xs′ : List Float) : Type 0 where
+  pub size : length at ≡ 16
+  pub filled : n ≡ 0 → xs′ ≡ at
+  pub left : (n ≡ 0 → ⊥) → xs′ ≡ xs

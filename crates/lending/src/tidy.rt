@@ -1,0 +1,34 @@
+// Heads as soundness and layout read them: a lent head may hold any number in a place that its kind doesn't use, and so a length that is none.
+use crate::codes;
+ghost use mathlib.Core.Path.{_≡_};
+ghost use mathlib.Core.List.{map};
+ghost use Rattle.lending.specs.Lent.{tidied};
+
+fn tidy_head(h: [u64; 8]) -> [u64; 8]
+    ensures { λ r. ⌜ r ≡ tidied h ⌝ }
+{
+    let kind = h[0];
+    if kind == 0 {
+        return [0u64, 0, 0, 0, 0, 0, 0, 0];
+    }
+    if kind == 1 {
+        return [1u64, 0, h[2], 0, 0, 0, 0, 0];
+    }
+    if kind == 2 {
+        return [2u64, h[1], 0, h[3], h[4], 0, 0, 0];
+    }
+    h
+}
+
+pub fn tidy(heads: &[[u64; 8]; 64]) -> [[u64; 8]; 64]
+    ensures { λ r. ⌜ r ≡ map tidied (now (heads .entry)) ⌝ }
+{
+    codes::heads_sized(heads);
+    let mut a = [[0u64; 8]; 64];
+    for i in 0..64usize {
+        let h = heads[i];
+        let d = tidy_head(h);
+        a[i] = d;
+    }
+    a
+}
