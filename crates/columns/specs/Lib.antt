@@ -5,3 +5,4 @@ pub mod OverLaws
 pub mod ActionLaws
 pub mod PackLaws
 pub mod SlotLaws
+pub mod RowLaws

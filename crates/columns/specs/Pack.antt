@@ -4,8 +4,9 @@ use mathlib.Core.Bool.{Bool, true, false, _||_}
 use lib.Dec.{ltb}
 use mathlib.Core.List.{List, [], _∷_, map}
 use Prim.Native.Nat.{ℕ, zero, suc, _+_, _≤_}
-use lib.ListN.{length, getD, take}
+use lib.ListN.{length, getD, take, set}
 use lib.Ieee.{Float}
+use Rattle.rules.specs.Lists.{anyOf}
 use Rattle.rules.specs.Tree.{tile, barCode, axisCode}
 use Rattle.rules.specs.declared.model.TileId.{TileId}
 use Rattle.rules.specs.declared.model.Kind.{Kind}
@@ -56,6 +57,13 @@ pub record Unpacks (s : List Slot) (hs xs : List (List ℕ)) (ss ms : List (List
   pub shares : ss ≡ map sharesOf s
   pub minima : ms ≡ map minimaOf s
 
+-- one slot written into its row of each column
+pub record Puts (i : ℕ) (s : Slot) (hs xs : List (List ℕ)) (ss ms : List (List Float)) (hs′ xs′ : List (List ℕ)) (ss′ ms′ : List (List Float)) : Type 0 where
+  pub heads : hs′ ≡ set hs i (headOf s)
+  pub ids : xs′ ≡ set xs i (idsOf s)
+  pub shares : ss′ ≡ set ss i (sharesOf s)
+  pub minima : ms′ ≡ set ms i (minimaOf s)
+
 -- a length of over 16
 abbrev pub overHead : List ℕ → Bool
 overHead h = ltb 16 (getD h 4 0) || ltb 16 (getD h 5 0) || ltb 16 (getD h 6 0)
@@ -69,6 +77,14 @@ overKind (suc (suc (suc n))) h = overHead h
 
 abbrev pub overOf : List ℕ → Bool
 overOf h = overKind (getD h 0 0) h
+
+-- columns of 64 rows, whose lists are of 16 at most
+pub record Even (hs xs : List (List ℕ)) (ss ms : List (List Float)) : Type 0 where
+  pub heads : length hs ≡ 64
+  pub ids : length xs ≡ 64
+  pub shares : length ss ≡ 64
+  pub minima : length ms ≡ 64
+  pub whole : anyOf overHead hs ≡ false
 
 -- ---- the sweep
 

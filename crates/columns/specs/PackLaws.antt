@@ -119,7 +119,7 @@ tiles-back zero ts = refl
 tiles-back (suc n) [] = refl
 tiles-back (suc n) (t ∷ ts) = ap (λ (l : List TileId). t ∷ l) (tiles-back n ts)
 
-node-back : (k : Kind) (s : Slot) → nodeFrom (headBy k s) (idsBy k s) (sharesOf s) (minimaOf s) ≡ nodeOf k s
+pub node-back : (k : Kind) (s : Slot) → nodeFrom (headBy k s) (idsBy k s) (sharesOf s) (minimaOf s) ≡ nodeOf k s
 node-back Empty s = refl
 node-back (Pane p) s = refl
 node-back (Tabs b) s = ap (λ (x : TabBarPlacement). Node.tabs x (s .active) (take (s .panes .len) (s .panes .at))) (bar-back b)
@@ -585,7 +585,7 @@ or-false true = refl
 or-false false = refl
 
 -- the heads tell whether a list is over 16
-over-head : (s : Slot) → overHead (headOf s) ≡ overSlot s
+pub over-head : (s : Slot) → overHead (headOf s) ≡ overSlot s
 over-head s = go (s .kind)
   where
     go : (k : Kind) → overHead (headBy k s) ≡ overBy k s

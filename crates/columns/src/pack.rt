@@ -8,11 +8,12 @@ use rules::model::TabBarPlacement;
 use rules::model::TileId;
 use rules::model::Tiles;
 ghost use mathlib.Core.Path.{_≡_};
-ghost use mathlib.Core.List.{map};
+ghost use mathlib.Core.List.{[], map};
 ghost use lib.Dec.{ltb};
 ghost use lib.ListN.{length, getD, take};
+ghost use Prim.Native.Nat.{_<_};
 ghost use Rattle.rules.specs.Lists.{anyOf};
-ghost use Rattle.rules.specs.Tree.{Node, tile, viewSlot, overSlot};
+ghost use Rattle.rules.specs.Tree.{Node, empty, tile, viewSlot, overSlot};
 ghost use Rattle.columns.specs.Columns.{barFrom, axisFrom, nodeFrom, nodesFrom};
 ghost use Rattle.columns.specs.Pack.{overHead, overOf};
 
@@ -130,6 +131,24 @@ fn slot_of(h: [u64; 8], row: [u64; 16], shares: [f64; 16], minima: [f64; 16]) ->
         return group_slot(h, row);
     }
     split_slot(h, row, shares, minima)
+}
+
+// The slot that one row shows.
+pub fn get(
+    heads: &[[u64; 8]; 64],
+    ids: &[[u64; 16]; 64],
+    shares: &[[f64; 16]; 64],
+    minima: &[[f64; 16]; 64],
+    i: usize,
+) -> Slot
+    requires { ⌜ (length (now heads) ≡ 64) × (length (now ids) ≡ 64) × (length (now shares) ≡ 64) × (length (now minima) ≡ 64) × (i < 64) ⌝ }
+    ensures { λ r. ⌜ (viewSlot r ≡ getD (nodesFrom (now (heads .entry)) (now (ids .entry)) (now (shares .entry)) (now (minima .entry))) i empty) × (overSlot r ≡ overOf (getD (now (heads .entry)) i [])) ⌝ }
+{
+    let h = heads[i];
+    let row = ids[i];
+    let parts = shares[i];
+    let least = minima[i];
+    slot_of(h, row, parts, least)
 }
 
 // A length of over 16 is handed on as it is: the slot then has a list that is not all there.

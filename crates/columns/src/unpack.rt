@@ -12,7 +12,7 @@ ghost use lib.Dec.{ltb};
 ghost use lib.ListN.{length};
 ghost use Rattle.rules.specs.Lists.{anyOf};
 ghost use Rattle.rules.specs.Tree.{barCode, axisCode};
-ghost use Rattle.columns.specs.Pack.{Unpacks, overHead, slotOf, headOf, idsOf};
+ghost use Rattle.columns.specs.Pack.{Unpacks, Puts, overHead, slotOf, headOf, idsOf};
 
 // The number of a group's placement in its head.
 pub fn bar_code(b: TabBarPlacement) -> u64
@@ -98,6 +98,30 @@ fn ids_row(s: Slot) -> [u64; 16]
         Kind::Tabs(_) => at,
         Kind::Split(_) => numbers_of(tiles),
     }
+}
+
+// A slot into one row of each column.
+pub fn put(
+    heads: &mut [[u64; 8]; 64],
+    ids: &mut [[u64; 16]; 64],
+    shares: &mut [[f64; 16]; 64],
+    minima: &mut [[f64; 16]; 64],
+    i: usize,
+    s: Slot,
+)
+    requires { ⌜ (length (now heads) ≡ 64) × (length (now ids) ≡ 64) × (length (now shares) ≡ 64) × (length (now minima) ≡ 64) × (i < 64) ⌝ }
+    ensures { λ r. ⌜ Puts i s (now (heads .entry)) (now (ids .entry)) (now (shares .entry)) (now (minima .entry)) (now (heads .exit)) (now (ids .exit)) (now (shares .exit)) (now (minima .exit)) ⌝ }
+{
+    let h = head_of(s);
+    heads[i] = h;
+    let row = ids_row(s);
+    ids[i] = row;
+    let some = s.shares;
+    let parts = some.at;
+    shares[i] = parts;
+    let least = s.minima;
+    let sizes = least.at;
+    minima[i] = sizes;
 }
 
 // All four columns in one pass.
