@@ -5,3 +5,4 @@ pub mod PushLoop
 pub mod Slots
 pub mod SlotLaws
 pub mod SlotsLoop
+pub mod BareLaws

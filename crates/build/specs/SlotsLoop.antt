@@ -9,11 +9,12 @@ use native.Mathlib.Numerals.{add-one}
 use native.Mathlib.Omega.{arith}
 use borrow.Author.Tests.{eqb-true, ltb-false}
 use lib.Dec.{eqb, ltb}
+use lib.Ieee.{Float}
 use lib.ListN.{length, getD, take, drop, set, replicate, length-drop}
 use lib.Seq.{slice, slice-cons, take-all, length-take-le, take-suc, drop-drop, getD-drop}
 use Rattle.rules.specs.Lists.{anyOf, position}
 use Rattle.rules.specs.Numbers.{shareOk, minimumOk}
-use Rattle.rules.specs.Tree.{Node, empty, viewSlot, overSlot}
+use Rattle.rules.specs.Tree.{Node, empty, viewSlot}
 use Rattle.rules.specs.Table.{Row, paneRow, tabsRow, splitRow, panesUsed, sharesUsed, minimaUsed, sumRows, Table}
 use Rattle.rules.specs.Spec.{Left, after, leftOf, wideRow, rowPanes, rowRefusal, firstRefusal, validate, refuseIf, refuseAt}
 use Rattle.rules.specs.declared.model.Slot.{Slot}
@@ -21,6 +22,9 @@ use Rattle.rules.specs.declared.refusal.Refusal.{Refusal}
 use Rattle.rules.specs.declared.refusal.Refusal.the-variants.{TooFewSplitChildren, ShareCountMismatch, InvalidShare, TooManySplitConstraints, InvalidSplitConstraint}
 use Rattle.lists.specs.Exact.{padTo}
 use Rattle.lists.specs.Build.{set-padTo}
+use Rattle.columns.specs.Columns as C
+use Rattle.columns.specs.Pack.{Puts, Even}
+use Rattle.columns.specs.RowLaws.{put-nodes, put-even}
 use Rattle.table.specs.Rows.{rowFrom, tableOf}
 use Rattle.checks.specs.Entries.{length-entries}
 use Rattle.checks.specs.Checks.{leftAt}
@@ -28,7 +32,7 @@ use Rattle.checks.specs.Walk.{Along, along-start, along-more, left-after}
 use Rattle.build.specs.Push.{rowNode, nodesFrom}
 use Rattle.build.specs.PushLaws.{length-nodes}
 use Rattle.checks.specs.CheckLaws.{or-left, or-right}
-use Rattle.build.specs.Slots.{SlotIs, Fit, Slotted, SlotsAre}
+use Rattle.build.specs.Slots.{SlotIs, Fit, Slotted, Bare, ColumnsAre}
 use Rattle.table.specs.declared.sections.Places.{Places}
 
 pub map-set : {A B : Type 0} (f : A → B) (xs : List A) (i : ℕ) (x : A) → map f (set xs i x) ≡ set (map f xs) i (f x)
@@ -72,12 +76,12 @@ pad-as (suc n) d (x ∷ xs) h =
 abbrev all : List ℕ → Places → List ℕ → ℕ → List Node
 all bs t kids end = nodesFrom kids 0 (take end (tableOf bs t .rows)) (leftOf (tableOf bs t))
 
-pub record Slotting (bs : List ℕ) (t : Places) (kids : List ℕ) (end i p s m : ℕ) (slots : List Slot) : Type 0 where
+pub record Slotting (bs : List ℕ) (t : Places) (kids : List ℕ) (end i p s m : ℕ) (hs xs : List (List ℕ)) (ss ms : List (List Float)) : Type 0 where
   pub within : i ≤ end
   pub along : Along (tableOf bs t) i p s m
-  pub view : map viewSlot slots ≡ padTo 64 empty (take i (all bs t kids end))
+  pub view : C.nodesFrom hs xs ss ms ≡ padTo 64 empty (take i (all bs t kids end))
   pub rest : drop i (all bs t kids end) ≡ nodesFrom kids i (slice i end (tableOf bs t .rows)) (leftAt (tableOf bs t) p s m)
-  pub fits : anyOf overSlot slots ≡ false
+  pub even : Even hs xs ss ms
 
 module _ (bs : List ℕ) (t : Places) (kids : List ℕ) (end : ℕ) (z : Slotted bs t kids end) where
   abbrev T : Table
@@ -91,15 +95,14 @@ module _ (bs : List ℕ) (t : Places) (kids : List ℕ) (end : ℕ) (z : Slotted
       let w : end ≤ t .«row_count» = z .within in
       length-nodes kids 0 (take end (T .rows)) (leftOf T) ∙ length-take-le end (T .rows) (omega (arith, rows-size))
 
-  pub slotting-start : (x : Slot) → SlotIs x empty → Slotting bs t kids end 0 0 0 0 (replicate 64 x)
-  slotting-start x e =
-      record { within = omega arith; along = along-start T (z .used); view = map-replicate viewSlot 64 x empty (e .view); rest = refl; fits = any-replicate overSlot 64 x (e .fits) }
+  pub slotting-start : (hs xs : List (List ℕ)) (ss ms : List (List Float)) → Bare hs xs ss ms → Slotting bs t kids end 0 0 0 0 hs xs ss ms
+  slotting-start hs xs ss ms e = record { within = omega arith; along = along-start T (z .used); view = e .none; rest = refl; even = e .even }
 
-  module _ (i p s m : ℕ) (slots : List Slot) (w : Slotting bs t kids end i p s m slots) where
-    pub slotting-more : i < end → (r : Row) (a b c : ℕ) (x : Slot) → r ≡ getD (T .rows) i paneRow → a ≡ panesUsed r → b ≡ sharesUsed r → c ≡ minimaUsed r
-        → SlotIs x (rowNode kids i r (leftAt T p s m)) → Slotting bs t kids end (i + 1) (p + a) (s + b) (m + c) (set slots i x)
+  module _ (i p s m : ℕ) (hs xs : List (List ℕ)) (ss ms : List (List Float)) (w : Slotting bs t kids end i p s m hs xs ss ms) where
+    pub slotting-more : i < end → (r : Row) (a b c : ℕ) (x : Slot) (hs′ xs′ : List (List ℕ)) (ss′ ms′ : List (List Float)) → r ≡ getD (T .rows) i paneRow → a ≡ panesUsed r → b ≡ sharesUsed r → c ≡ minimaUsed r
+        → SlotIs x (rowNode kids i r (leftAt T p s m)) → Puts i x hs xs ss ms hs′ xs′ ss′ ms′ → Slotting bs t kids end (i + 1) (p + a) (s + b) (m + c) hs′ xs′ ss′ ms′
     unfolding nodesFrom
-    slotting-more h r a b c x e u v y n =
+    slotting-more h r a b c x hs′ xs′ ss′ ms′ e u v y n P =
         let y1 : end ≤ t .«row_count» = z .within in
         let y2 : t .«row_count» ≤ 64 = z .few in
         let y3 : length (T .rows) ≡ t .«row_count» = rows-size in
@@ -113,19 +116,19 @@ module _ (bs : List ℕ) (t : Places) (kids : List ℕ) (end : ℕ) (z : Slotted
         record {
           within = omega arith;
           along = along-more T i p s m r a b c (w .along) (omega arith) e u v y;
-          view = map-set viewSlot slots i x ∙ (λ j. set (w .view j) (sym size j) (viewSlot x)) ∙ set-padTo 64 empty (take i (all bs t kids end)) (viewSlot x) (omega arith)
+          view = put-nodes hs xs ss ms (w .even) i x hs′ xs′ ss′ ms′ P ∙ (λ j. set (w .view j) (sym size j) (viewSlot x)) ∙ set-padTo 64 empty (take i (all bs t kids end)) (viewSlot x) (omega arith)
               ∙ ap (padTo 64 empty) (sym (ap (λ (k : ℕ). take k (all bs t kids end)) (add-one i) ∙ take-suc (all bs t kids end) i empty (omega arith) ∙ ap (λ (q : Node). take i (all bs t kids end) ++ q ∷ []) at));
           rest = sym (drop-drop 1 i (all bs t kids end)) ∙ ap (drop 1) here
               ∙ (λ j. nodesFrom kids (sym (add-one i) j) (slice (sym (add-one i) j) end (T .rows)) (left-after T p s m a b c r u v y j));
-          fits = any-set overSlot slots i x (w .fits) (n .fits);
+          even = put-even hs xs ss ms (w .even) i x hs′ xs′ ss′ ms′ P (n .fits);
         }
 
-    pub slotting-end : end ≤ i → SlotsAre bs t kids end slots
+    pub slotting-end : end ≤ i → ColumnsAre bs t kids end hs xs ss ms
     slotting-end h =
         let y1 : end ≤ t .«row_count» = z .within in
         let y2 : t .«row_count» ≤ 64 = z .few in
         let y4 : length (all bs t kids end) ≡ end = all-size in
-        record { view = w .view ∙ ap (padTo 64 empty) (take-all i (all bs t kids end) (omega arith)) ∙ pad-as 64 empty (all bs t kids end) (omega arith); fits = w .fits }
+        record { view = w .view ∙ ap (padTo 64 empty) (take-all i (all bs t kids end) (omega arith)) ∙ pad-as 64 empty (all bs t kids end) (omega arith); even = w .even }
 
 -- ---- a row that was checked fits a slot
 
