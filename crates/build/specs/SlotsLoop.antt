@@ -1,7 +1,7 @@
 -- The slots made one after another, and that every row of a table that was checked fits one. Assumes nothing.
 use mathlib.Core.Path.{_≡_, refl, sym, ap, _∙_}
 use mathlib.Core.Bool.{Bool, true, false, not, _||_}
-use mathlib.Core.List.{List, [], _∷_, _++_, map}
+use mathlib.Core.List.{List, [], _∷_, _++_}
 use mathlib.Core.Option.{Option, none, some}
 use Prim.Native.Nat.{ℕ, zero, suc, _+_, _-_, _≤_, _<_}
 use native.Mathlib.Nat.{le-of-suc-le-suc}
@@ -35,36 +35,17 @@ use Rattle.checks.specs.CheckLaws.{or-left, or-right}
 use Rattle.build.specs.Slots.{SlotIs, Fit, Slotted, Bare, ColumnsAre}
 use Rattle.table.specs.declared.sections.Places.{Places}
 
-pub map-set : {A B : Type 0} (f : A → B) (xs : List A) (i : ℕ) (x : A) → map f (set xs i x) ≡ set (map f xs) i (f x)
-map-set f [] i x = refl
-map-set f (y ∷ xs) zero x = refl
-map-set f (y ∷ xs) (suc i) x = ap (λ (l : List _). f y ∷ l) (map-set f xs i x)
-
-pub any-set : {A : Type 0} (f : A → Bool) (xs : List A) (i : ℕ) (x : A) → anyOf f xs ≡ false → f x ≡ false → anyOf f (set xs i x) ≡ false
-unfolding anyOf
-any-set f [] i x e g = e
-any-set f (y ∷ xs) zero x e g = ap (λ (b : Bool). b || anyOf f xs) g ∙ or-right (f y) (anyOf f xs) e
-any-set f (y ∷ xs) (suc i) x e g = ap (λ (b : Bool). b || anyOf f (set xs i x)) (or-left (f y) (anyOf f xs) e) ∙ any-set f xs i x (or-right (f y) (anyOf f xs) e) g
-
 pub any-replicate : {A : Type 0} (f : A → Bool) (n : ℕ) (x : A) → f x ≡ false → anyOf f (replicate n x) ≡ false
 unfolding anyOf
 any-replicate f zero x e = refl
 any-replicate f (suc n) x e = ap (λ (b : Bool). b || anyOf f (replicate n x)) e ∙ any-replicate f n x e
-
-map-replicate : {A B : Type 0} (f : A → B) (n : ℕ) (x : A) (y : B) → f x ≡ y → map f (replicate n x) ≡ padTo n y []
-unfolding padTo
-map-replicate f zero x y e = refl
-map-replicate f (suc n) x y e = λ j. e j ∷ map-replicate f n x y e j
 
 pad-none : {A : Type 0} (n : ℕ) (d : A) → padTo n d [] ≡ replicate n d
 unfolding padTo
 pad-none zero d = refl
 pad-none (suc n) d = ap (λ (l : List _). d ∷ l) (pad-none n d)
 
-pub map-replicate-as : {A B : Type 0} (f : A → B) (n : ℕ) (x : A) (y : B) → f x ≡ y → map f (replicate n x) ≡ replicate n y
-map-replicate-as f n x y e = map-replicate f n x y e ∙ pad-none n y
-
-pub pad-as : {A : Type 0} (n : ℕ) (d : A) (xs : List A) → length xs ≤ n → padTo n d xs ≡ xs ++ replicate (n - length xs) d
+pad-as : {A : Type 0} (n : ℕ) (d : A) (xs : List A) → length xs ≤ n → padTo n d xs ≡ xs ++ replicate (n - length xs) d
 unfolding padTo
 pad-as n d [] h = pad-none n d ∙ ap (λ (k : ℕ). replicate k d) (let z : n ≡ n - 0 = omega arith in z)
 pad-as zero d (x ∷ xs) h = absurd (omega arith)

@@ -14,7 +14,7 @@ use table::sections::Places;
 ghost use mathlib.Core.Path.{_≡_};
 ghost use Prim.Native.Nat.{_+_, _≤_, _<_};
 ghost use lib.ListN.{length, take, drop};
-ghost use Rattle.rules.specs.Tree.{empty, pane, tabs, split};
+ghost use Rattle.rules.specs.Tree.{pane, tabs, split};
 ghost use Rattle.lists.specs.Exact.{IsIds, IsTiles, IsReals};
 ghost use Rattle.table.specs.Row.{rowIs};
 ghost use Rattle.reader.specs.Section.{Held};
@@ -65,22 +65,6 @@ fn children_of(kids: &[u64; 1024], i: usize, n: usize) -> Tiles
         j += 1;
     }
     Tiles { at, len: n }
-}
-
-pub fn empty_slot() -> Slot
-    ensures { λ r. ⌜ SlotIs r empty ⌝ }
-{
-    let panes = lists::ids::empty();
-    let children = lists::tiles::empty();
-    let reals = lists::reals::empty();
-    Slot {
-        kind: Kind::Empty,
-        active: 0,
-        panes,
-        children,
-        shares: reals,
-        minima: reals,
-    }
 }
 
 // TileNode::Pane

@@ -43,12 +43,20 @@ pub record Drafted (answer : Answer) (tree : TileTree) (b : Built) : Type 0 wher
   pub says : answer ≡ b .answer
   pub holds : view tree ≡ b .tree
 
+-- the same, with the tree in columns under a root
+pub record DraftedIn (answer : Answer) (root : ℕ) (hs xs : List (List ℕ)) (ss ms : List (List Float)) (b : Built) : Type 0 where
+  pub says : answer ≡ b .answer
+  pub holds : arenaFrom root 0 hs xs ss ms ≡ b .tree
+  pub plain : Plain hs xs ss ms
+
+-- ---- on the way there
+
 -- a refused spec's tree is the lone empty root, whatever was read
 abbrev pub refusedAs : Answer → Built → Built
 refusedAs Accepted b = b
 refusedAs (Refused e) b = refusedSpec e
 
--- the same answer, with the tree in columns under a root. A refused one says nothing of the columns
+-- the answer, and where it is accepted the tree. A refused one says nothing of the columns
 pub record BuiltIn (b : Built) (answer : Answer) (root : ℕ) (hs xs : List (List ℕ)) (ss ms : List (List Float)) : Type 0 where
   pub says : answer ≡ b .answer
   pub given : b ≡ refusedAs answer b

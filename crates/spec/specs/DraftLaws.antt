@@ -10,10 +10,9 @@ use lib.Dec.{ltb}
 use lib.Ieee.{Float}
 use lib.ListN.{length, getD, set, replicate}
 use Rattle.rules.specs.Lists.{anyOf}
-use Rattle.rules.specs.Tree.{Arena, empty, emptyGroup, viewSlot, overSlot, arena, tile}
+use Rattle.rules.specs.Tree.{Arena, empty, emptyGroup, arena, tile}
 use Rattle.rules.specs.Table.{readTable}
 use Rattle.rules.specs.Spec.{leftOf, validate, Built, Build, padded, builtNodes, refusedSpec, wideRow}
-use Rattle.rules.specs.declared.model.Slot.{Slot}
 use Rattle.rules.specs.declared.refusal.Answer.the-variants.{Accepted, Refused}
 use Rattle.rules.specs.declared.refusal.Refusal.{Refusal}
 use Rattle.rules.specs.declared.refusal.Refusal.the-variants.{BadTable, ArenaFull, TooWide}
@@ -22,21 +21,25 @@ use Rattle.columns.specs.Pack.{overHead, overOf, Even}
 use Rattle.columns.specs.OverLaws.{any-alike}
 use Rattle.columns.specs.RowLaws.{even-head, even-row}
 use Rattle.repair.specs.Whole.{arenaFrom, Plain}
+use Rattle.repair.specs.Settle.{blankHead}
 use Rattle.table.specs.Rows.{rowFrom, rowsAt, tableOf, Tabled}
 use Rattle.checks.specs.Entries.{length-entries}
 use Rattle.build.specs.Push.{Ready, Pushed}
-use Rattle.build.specs.Slots.{SlotIs, Slotted, ColumnsAre}
-use Rattle.build.specs.SlotsLoop.{fit-rows, any-replicate, map-replicate-as, any-set, map-set}
+use Rattle.build.specs.Slots.{Slotted, ColumnsAre}
+use Rattle.build.specs.SlotsLoop.{fit-rows}
 use Rattle.spec.specs.Draft.{BuiltIn, Passed, draftChecked, draftNarrow, draftWithin, draftTabled, draftOf}
 use Rattle.table.specs.declared.sections.Places.{Places}
 
 -- ---- the refused tree
 
-pub refused-nodes : (x g : Slot) → SlotIs x empty → SlotIs g emptyGroup → map viewSlot (set (replicate 64 x) 0 g) ≡ emptyGroup ∷ replicate 63 empty
-refused-nodes x g e h = map-set viewSlot (replicate 64 x) 0 g ∙ (λ j. set (map-replicate-as viewSlot 64 x empty (e .view) j) 0 (h .view j))
+-- columns of zeros but for the head of an empty Hidden group in row 0
+abbrev pub loneHeads : List (List ℕ)
+loneHeads = set (replicate 64 (replicate 8 0)) 0 blankHead
 
-pub refused-fits : (x g : Slot) → SlotIs x empty → SlotIs g emptyGroup → anyOf overSlot (set (replicate 64 x) 0 g) ≡ false
-refused-fits x g e h = any-set overSlot (replicate 64 x) 0 g (any-replicate overSlot 64 x (e .fits)) (h .fits)
+pub lone-shown : (x y : Float) → (arenaFrom 0 0 loneHeads (replicate 64 (replicate 16 0)) (replicate 64 (replicate 16 x)) (replicate 64 (replicate 16 y)) ≡ arena (tile 0) 0 (emptyGroup ∷ replicate 63 empty))
+    × Plain loneHeads (replicate 64 (replicate 16 0)) (replicate 64 (replicate 16 x)) (replicate 64 (replicate 16 y))
+unfolding nodesFrom anyOf
+lone-shown x y = (refl, record { heads = refl; ids = refl; shares = refl; minima = refl; unused = refl })
 
 -- ---- the built tree
 

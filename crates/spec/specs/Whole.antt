@@ -19,10 +19,10 @@ use Rattle.rules.specs.declared.refusal.Answer.the-variants.{Accepted, Refused}
 use Rattle.rules.specs.declared.refusal.Refusal.{Refusal}
 use Rattle.columns.specs.Columns.{nodesFrom}
 use Rattle.columns.specs.Pack.{overOf}
-use Rattle.repair.specs.Whole.{arenaFrom}
+use Rattle.repair.specs.Whole.{arenaFrom, Plain}
 use Rattle.repair.specs.Settle.{Mends}
 use Rattle.repair.specs.declared.Settled.{Settled}
-use Rattle.spec.specs.Draft.{draftChecked, draftNarrow, draftWithin, draftTabled, draftOf, Drafted, refusedAs, BuiltIn, repairedBy, from-draft}
+use Rattle.spec.specs.Draft.{draftChecked, draftNarrow, draftWithin, draftTabled, draftOf, Drafted, DraftedIn, refusedAs, BuiltIn, repairedBy, from-draft}
 use Rattle.spec.specs.DraftLaws.{built-refused}
 
 abbrev pub toldBy : Answer → Repaired → Built
@@ -111,12 +111,17 @@ module _ (bs : List ℕ) (x : Answer) (hs xs : List (List ℕ)) (ss ms : List (L
       subst (λ (y : Answer). BuiltIn (fromSpec bs) y 0 hs xs ss ms) (sym q)
       (built-refused (fromSpec bs) f 0 hs xs ss ms (sym (by-answer (Refused f) q ∙ D .given ∙ ap (λ (z : Answer). refusedAs z (draftOf bs)) q)))
 
--- ---- the columns, packed
+-- ---- a refused one's columns are cleared, and any are packed
 
 module _ (b : Built) (x : Answer) (root : ℕ) (hs xs : List (List ℕ)) (ss ms : List (List Float)) (D : BuiltIn b x root hs xs ss ms) where
-  pub packed-accepted : x ≡ Accepted → (t : TileTree) → t .root ≡ tile root → t .revision ≡ 0 → (map viewSlot (t .slots) ≡ nodesFrom hs xs ss ms) × (anyOf overSlot (t .slots) ≡ anyOf overOf hs)
-      → Drafted Accepted t b
-  packed-accepted q t r v (n, o) = record { says = sym q ∙ D .says; holds = (λ j. record { root = r j; revision = v j; nodes = n j; over = o j }) ∙ D .holds q }
+  pub in-accepted : x ≡ Accepted → DraftedIn x root hs xs ss ms b
+  in-accepted q = record { says = D .says; holds = D .holds q; plain = D .plain q }
 
-  pub packed-refused : (f : Refusal) → x ≡ Refused f → (y : Answer) (t : TileTree) → Drafted y t (refusedSpec f) → Drafted y t b
-  packed-refused f q y t E = subst (Drafted y t) (sym (D .given ∙ ap (λ (z : Answer). refusedAs z b) q)) E
+  pub in-refused : (f : Refusal) → x ≡ Refused f → (hs′ xs′ : List (List ℕ)) (ss′ ms′ : List (List Float)) → (arenaFrom 0 0 hs′ xs′ ss′ ms′ ≡ refusedSpec f .tree) × Plain hs′ xs′ ss′ ms′
+      → DraftedIn x 0 hs′ xs′ ss′ ms′ b
+  in-refused f q hs′ xs′ ss′ ms′ (h, P) =
+      record { says = D .says; holds = h ∙ sym (ap (λ (y : Built). y .tree) (D .given ∙ ap (λ (z : Answer). refusedAs z b) q)); plain = P }
+
+pub packed-in : (b : Built) (x : Answer) (root : ℕ) (hs xs : List (List ℕ)) (ss ms : List (List Float)) → DraftedIn x root hs xs ss ms b → (t : TileTree) → t .root ≡ tile root → t .revision ≡ 0
+    → (map viewSlot (t .slots) ≡ nodesFrom hs xs ss ms) × (anyOf overSlot (t .slots) ≡ anyOf overOf hs) → Drafted x t b
+packed-in b x root hs xs ss ms D t r v (n, o) = record { says = D .says; holds = (λ j. record { root = r j; revision = v j; nodes = n j; over = o j }) ∙ D .holds }

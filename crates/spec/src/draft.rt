@@ -1,14 +1,9 @@
 // A spec's tree before its repair, in columns: the Rust's `from_spec` (tree.rs) up to `normalize`, with document 01's refusals in their order.
 use build::push::push_spec;
-use build::slot::empty_slot;
 use build::slots::slots_into;
 use checks::entry::too_wide;
 use checks::validate::Checked;
 use checks::validate::check_rows;
-use rules::model::Kind;
-use rules::model::Slot;
-use rules::model::TabBarPlacement;
-use rules::model::TileId;
 use rules::model::TileTree;
 use rules::refusal::Answer;
 use rules::refusal::Refusal;
@@ -16,52 +11,16 @@ use table::preorder::read_table;
 use table::sections::Places;
 use table::sections::Sections;
 ghost use mathlib.Core.Path.{_≡_};
-ghost use Rattle.rules.specs.Tree.{arena, tile, emptyGroup};
-ghost use Rattle.rules.specs.Spec.{builtNodes, refusedSpec};
+ghost use Rattle.rules.specs.Tree.{arena, tile};
+ghost use Rattle.rules.specs.Spec.{builtNodes};
 ghost use Rattle.table.specs.Rows.{tableOf};
-ghost use Rattle.build.specs.Slots.{SlotIs, Bare};
+ghost use Rattle.build.specs.Slots.{Bare};
 ghost use Rattle.repair.specs.Whole.{arenaFrom, Plain};
-ghost use Rattle.spec.specs.Draft.{Passed, Drafted, BuiltIn, draftOf};
+ghost use Rattle.spec.specs.Draft.{Passed, BuiltIn, draftOf};
 
 pub struct Draft {
     pub answer: Answer,
     pub tree: TileTree,
-}
-
-// An empty Hidden group.
-fn group_slot() -> Slot
-    ensures { λ r. ⌜ SlotIs r emptyGroup ⌝ }
-{
-    let panes = lists::ids::empty();
-    let children = lists::tiles::empty();
-    let reals = lists::reals::empty();
-    Slot {
-        kind: Kind::Tabs(TabBarPlacement::Hidden),
-        active: 0,
-        panes,
-        children,
-        shares: reals,
-        minima: reals,
-    }
-}
-
-// A refused spec: an empty Hidden group as root in slot 0, nothing else, revision 0.
-pub fn refused(e: Refusal) -> Draft
-    ensures { λ r. ⌜ Drafted (r .answer) (r .tree) (refusedSpec e) ⌝ }
-{
-    let none = empty_slot();
-    let mut slots = [none; 64];
-    let group = group_slot();
-    slots[0] = group;
-    let tree = TileTree {
-        root: TileId { slot: 0 },
-        revision: 0,
-        slots,
-    };
-    Draft {
-        answer: Answer::Refused(e),
-        tree,
-    }
 }
 
 // A table that passed every check, built: slot = row number.
