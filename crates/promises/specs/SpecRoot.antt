@@ -15,7 +15,7 @@ use Rattle.rules.specs.Spec.{Left, after, rowPanes, rowShares, rowMinima, leftO
 use Rattle.rules.specs.Refusals.{told}
 use Rattle.rules.specs.declared.refusal.Refusal.{Refusal}
 use Rattle.forest.specs.Kept.{keeps-panes}
-use Rattle.spec.specs.Standing.{read-fits, held}
+use Rattle.accepted.specs.Standing.{read-fits, held}
 use Rattle.promises.specs.Words.{and-iff}
 use Rattle.promises.specs.RepairExact.{some-none, no-room}
 use Rattle.promises.specs.OpsExact.{told-apart}

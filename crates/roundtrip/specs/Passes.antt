@@ -26,8 +26,8 @@ use Rattle.forest.specs.Mended.{compact-all}
 use Rattle.forest.specs.Codec.{stored, Shared, Least, shared-all, least-all, long-shares, long-minima, long-children}
 use Rattle.forest.specs.Forest.{Forest, nil, leaf, node, roots, shown, Leafy, fine-shared, fine-least, Holds}
 use Rattle.forest.specs.Again.{names}
-use Rattle.spec.specs.PushLaws.{map-append}
-use Rattle.spec.specs.SplitLaws.{split-good}
+use Rattle.build.specs.PushLaws.{map-append}
+use Rattle.checks.specs.SplitLaws.{split-good}
 use Rattle.roundtrip.specs.Write.{rowOfNode, nodeShares, nodeMinima}
 use Rattle.roundtrip.specs.ReadBack.{front}
 

@@ -16,7 +16,7 @@ use Rattle.rules.specs.declared.model.Axis.{Axis}
 use Rattle.forest.specs.Codec.{stored, long-children}
 use Rattle.forest.specs.Forest.{Forest, nil, leaf, node, roots, tiles, Leafy, Holds}
 use Rattle.forest.specs.Again.{names, heads}
-use Rattle.spec.specs.PushLaws.{map-append}
+use Rattle.build.specs.PushLaws.{map-append}
 use Rattle.roundtrip.specs.Write.{rowOfNode}
 use Rattle.roundtrip.specs.ReadBack.{front}
 use Rattle.roundtrip.specs.Passes.{before, after-node, rows, feed}

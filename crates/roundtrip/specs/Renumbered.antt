@@ -17,8 +17,8 @@ use Rattle.rules.specs.declared.model.Axis.{Axis}
 use Rattle.forest.specs.Lists.{All}
 use Rattle.forest.specs.Codec.{stored, long-children}
 use Rattle.forest.specs.Forest.{Forest, nil, leaf, node, roots, tiles, shown, Leafy, Fine, Holds}
-use Rattle.spec.specs.PushLaws.{or-left, or-right}
-use Rattle.spec.specs.Sprout.{upFrom}
+use Rattle.checks.specs.CheckLaws.{or-left, or-right}
+use Rattle.accepted.specs.Sprout.{upFrom}
 use Rattle.roundtrip.specs.Write.{rowOfNode}
 use Rattle.roundtrip.specs.Written.{node-narrow}
 use Rattle.roundtrip.specs.Passes.{rows}

@@ -22,10 +22,11 @@ use Rattle.forest.specs.Forest.{Forest, nil, leaf, node, roots, Leafy, Holds}
 use Rattle.forest.specs.Again.{names, names-long}
 use Rattle.forest.specs.Grow.{Left, nothing, group, branch, keptOf, stem}
 use Rattle.forest.specs.Settled.{Tidy, reads}
-use Rattle.spec.specs.PushLaws.{map-append, or-left, or-right}
+use Rattle.build.specs.PushLaws.{map-append}
+use Rattle.checks.specs.CheckLaws.{or-left, or-right}
 use Rattle.roundtrip.specs.Write.{rowOfNode, nodeShares, nodeMinima, along, tableAlong, tableOfTree, toSpec}
 use Rattle.roundtrip.specs.ReadBack.{Bytes, RowFits, Real, Writable, bytes-fit, read-back}
-use Rattle.spec.specs.Accepted.{accepted-panes}
+use Rattle.accepted.specs.Accepted.{accepted-panes}
 
 -- ---- the rows use up what the nodes have
 

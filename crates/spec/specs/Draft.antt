@@ -5,6 +5,7 @@ use mathlib.Core.List.{List, []}
 use mathlib.Core.Option.{Option, none, some}
 use Prim.Native.Nat.{ℕ, _≤_}
 use lib.Dec.{ltb}
+use lib.Ieee.{Float}
 use lib.ListN.{length}
 use Rattle.rules.specs.Lists.{anyOf}
 use Rattle.rules.specs.Tree.{view, arena, tile}
@@ -15,8 +16,9 @@ use Rattle.rules.specs.declared.refusal.Answer.{Answer}
 use Rattle.rules.specs.declared.refusal.Answer.the-variants.{Accepted, Refused}
 use Rattle.rules.specs.declared.refusal.Refusal.{Refusal}
 use Rattle.rules.specs.declared.refusal.Refusal.the-variants.{BadTable, ArenaFull, TooWide}
-use Rattle.spec.specs.Rows.{rowsAt, tableOf, Tabled}
-use Rattle.spec.specs.declared.table.Places.{Places}
+use Rattle.repair.specs.Whole.{arenaFrom, Plain}
+use Rattle.table.specs.Rows.{rowsAt, tableOf, Tabled}
+use Rattle.table.specs.declared.sections.Places.{Places}
 
 abbrev pub draftChecked : Option Refusal → Table → Built
 draftChecked (some e) t = refusedSpec e
@@ -40,6 +42,26 @@ draftOf bs = draftTabled (readTable bs)
 pub record Drafted (answer : Answer) (tree : TileTree) (b : Built) : Type 0 where
   pub says : answer ≡ b .answer
   pub holds : view tree ≡ b .tree
+
+-- the same, with the tree in columns under a root
+pub record DraftedIn (answer : Answer) (root : ℕ) (hs xs : List (List ℕ)) (ss ms : List (List Float)) (b : Built) : Type 0 where
+  pub says : answer ≡ b .answer
+  pub holds : arenaFrom root 0 hs xs ss ms ≡ b .tree
+  pub plain : Plain hs xs ss ms
+
+-- ---- on the way there
+
+-- a refused spec's tree is the lone empty root, whatever was read
+abbrev pub refusedAs : Answer → Built → Built
+refusedAs Accepted b = b
+refusedAs (Refused e) b = refusedSpec e
+
+-- the answer, and where it is accepted the tree. A refused one says nothing of the columns
+pub record BuiltIn (b : Built) (answer : Answer) (root : ℕ) (hs xs : List (List ℕ)) (ss ms : List (List Float)) : Type 0 where
+  pub says : answer ≡ b .answer
+  pub given : b ≡ refusedAs answer b
+  pub holds : answer ≡ Accepted → arenaFrom root 0 hs xs ss ms ≡ b .tree
+  pub plain : answer ≡ Accepted → Plain hs xs ss ms
 
 -- a table that passed every check
 pub record Passed (bs : List ℕ) (t : Places) : Type 0 where

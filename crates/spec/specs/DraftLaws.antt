@@ -3,36 +3,54 @@ use mathlib.Core.Path.{_≡_, refl, sym, ap, _∙_}
 use mathlib.Core.Bool.{Bool, true, false}
 use mathlib.Core.List.{List, [], _∷_, map}
 use mathlib.Core.Option.{Option, none, some}
-use Prim.Native.Nat.{ℕ, _≤_, _<_}
+use Prim.Native.Nat.{ℕ, suc, _≤_, _<_}
 use native.Mathlib.Omega.{arith}
 use borrow.Author.Tests.{lt-ltb, le-ltb}
 use lib.Dec.{ltb}
-use lib.ListN.{length, set, replicate}
+use lib.Ieee.{Float}
+use lib.ListN.{length, getD, set, replicate}
 use Rattle.rules.specs.Lists.{anyOf}
-use Rattle.rules.specs.Tree.{empty, emptyGroup, viewSlot, overSlot, arena, tile, view}
+use Rattle.rules.specs.Tree.{Arena, empty, emptyGroup, arena, tile}
 use Rattle.rules.specs.Table.{readTable}
-use Rattle.rules.specs.Spec.{leftOf, validate, Build, padded, builtNodes, refusedSpec, wideRow}
-use Rattle.rules.specs.declared.model.Slot.{Slot}
-use Rattle.rules.specs.declared.refusal.Answer.the-variants.{Accepted}
+use Rattle.rules.specs.Spec.{leftOf, validate, Built, Build, padded, builtNodes, refusedSpec, wideRow}
+use Rattle.rules.specs.declared.refusal.Answer.the-variants.{Accepted, Refused}
 use Rattle.rules.specs.declared.refusal.Refusal.{Refusal}
 use Rattle.rules.specs.declared.refusal.Refusal.the-variants.{BadTable, ArenaFull, TooWide}
-use Rattle.spec.specs.Rows.{rowFrom, rowsAt, tableOf, Tabled}
-use Rattle.spec.specs.Entries.{length-entries}
-use Rattle.spec.specs.Push.{Ready, Pushed}
-use Rattle.spec.specs.Slots.{SlotIs, Slotted, SlotsAre}
-use Rattle.spec.specs.SlotsLoop.{fit-rows, any-replicate, map-replicate-as, any-set, map-set}
-use Rattle.spec.specs.Draft.{Passed, draftChecked, draftNarrow, draftWithin, draftTabled, draftOf}
-use Rattle.spec.specs.declared.table.Places.{Places}
+use Rattle.columns.specs.Columns.{nodesFrom}
+use Rattle.columns.specs.Pack.{overHead, overOf, Even}
+use Rattle.columns.specs.OverLaws.{any-alike}
+use Rattle.columns.specs.RowLaws.{even-head, even-row}
+use Rattle.repair.specs.Whole.{arenaFrom, Plain}
+use Rattle.repair.specs.Settle.{blankHead}
+use Rattle.table.specs.Rows.{rowFrom, rowsAt, tableOf, Tabled}
+use Rattle.checks.specs.Entries.{length-entries}
+use Rattle.build.specs.Push.{Ready, Pushed}
+use Rattle.build.specs.Slots.{Slotted, ColumnsAre}
+use Rattle.build.specs.SlotsLoop.{fit-rows}
+use Rattle.spec.specs.Draft.{BuiltIn, Passed, draftChecked, draftNarrow, draftWithin, draftTabled, draftOf}
+use Rattle.table.specs.declared.sections.Places.{Places}
 
 -- ---- the refused tree
 
-pub refused-nodes : (x g : Slot) → SlotIs x empty → SlotIs g emptyGroup → map viewSlot (set (replicate 64 x) 0 g) ≡ emptyGroup ∷ replicate 63 empty
-refused-nodes x g e h = map-set viewSlot (replicate 64 x) 0 g ∙ (λ j. set (map-replicate-as viewSlot 64 x empty (e .view) j) 0 (h .view j))
+-- columns of zeros but for the head of an empty Hidden group in row 0
+abbrev pub loneHeads : List (List ℕ)
+loneHeads = set (replicate 64 (replicate 8 0)) 0 blankHead
 
-pub refused-fits : (x g : Slot) → SlotIs x empty → SlotIs g emptyGroup → anyOf overSlot (set (replicate 64 x) 0 g) ≡ false
-refused-fits x g e h = any-set overSlot (replicate 64 x) 0 g (any-replicate overSlot 64 x (e .fits)) (h .fits)
+pub lone-shown : (x y : Float) → (arenaFrom 0 0 loneHeads (replicate 64 (replicate 16 0)) (replicate 64 (replicate 16 x)) (replicate 64 (replicate 16 y)) ≡ arena (tile 0) 0 (emptyGroup ∷ replicate 63 empty))
+    × Plain loneHeads (replicate 64 (replicate 16 0)) (replicate 64 (replicate 16 x)) (replicate 64 (replicate 16 y))
+unfolding nodesFrom anyOf
+lone-shown x y = (refl, record { heads = refl; ids = refl; shares = refl; minima = refl; unused = refl })
 
 -- ---- the built tree
+
+-- heads with no length over 16 have none that their kind uses
+alike : (hs : List (List ℕ)) → ((i : ℕ) → overHead (getD hs i []) ≡ false) → ((i : ℕ) → overOf (getD hs i []) ≡ false) → map overHead hs ≡ map overOf hs
+alike [] f g = refl
+alike (h ∷ hs) f g = λ j. (f 0 ∙ sym (g 0)) j ∷ alike hs (λ i. f (suc i)) (λ i. g (suc i)) j
+
+even-plain : (hs xs : List (List ℕ)) (ss ms : List (List Float)) → Even hs xs ss ms → Plain hs xs ss ms
+even-plain hs xs ss ms E =
+    record { heads = E .heads; ids = E .ids; shares = E .shares; minima = E .minima; unused = alike hs (even-head hs xs ss ms E) (even-row hs xs ss ms E) }
 
 module _ (bs : List ℕ) (t : Places) (w : Passed bs t) where
   rows-size : length (tableOf bs t .rows) ≡ t .«row_count»
@@ -54,11 +72,29 @@ module _ (bs : List ℕ) (t : Places) (w : Passed bs t) where
         size = p .size;
       }
 
-  pub built-nodes : (kids₀ kids : List ℕ) (end : ℕ) (slots : List Slot) → Pushed (rowsAt bs t) kids₀ kids 0 end → SlotsAre bs t kids end slots → map viewSlot slots ≡ builtNodes (tableOf bs t)
-  built-nodes kids₀ kids end slots p s =
-      s .view ∙ sym (ap (λ (b : Build). padded (b .nodes)) (p .same (length (tableOf bs t .rows)) (leftOf (tableOf bs t)) [] refl (omega arith)))
+  module _ (kids₀ kids : List ℕ) (end : ℕ) (hs xs : List (List ℕ)) (ss ms : List (List Float)) (p : Pushed (rowsAt bs t) kids₀ kids 0 end) (s : ColumnsAre bs t kids end hs xs ss ms) where
+    built-nodes : nodesFrom hs xs ss ms ≡ builtNodes (tableOf bs t)
+    built-nodes = s .view ∙ sym (ap (λ (b : Build). padded (b .nodes)) (p .same (length (tableOf bs t .rows)) (leftOf (tableOf bs t)) [] refl (omega arith)))
+
+    pub built-shown : (arenaFrom 0 0 hs xs ss ms ≡ arena (tile 0) 0 (builtNodes (tableOf bs t))) × Plain hs xs ss ms
+    built-shown =
+        let P : Plain hs xs ss ms = even-plain hs xs ss ms (s .even) in
+        (λ j. record { root = tile 0; revision = 0; nodes = built-nodes j; over = (sym (any-alike overHead overOf hs hs (P .unused)) ∙ s .even .whole) j }, P)
 
 -- ---- the answers in their order
+
+-- an answer that is refused, in columns that may hold anything
+pub built-refused : (b : Built) (e : Refusal) (root : ℕ) (hs xs : List (List ℕ)) (ss ms : List (List Float)) → refusedSpec e ≡ b → BuiltIn b (Refused e) root hs xs ss ms
+built-refused b e root hs xs ss ms p =
+    record { says = ap (λ (x : Built). x .answer) p; given = sym p; holds = λ q. absurd (no q); plain = λ q. absurd (no q) }
+  where
+    no : Refused e ≡ Accepted → ⊥
+    no q = let z : _≡_ {A = ℕ} 0 1 = cc in omega arith
+
+pub built-accepted : (b : Built) (root : ℕ) (hs xs : List (List ℕ)) (ss ms : List (List Float)) (a : Arena) → b ≡ record { answer = Accepted; tree = a }
+    → (arenaFrom root 0 hs xs ss ms ≡ a) × Plain hs xs ss ms → BuiltIn b Accepted root hs xs ss ms
+built-accepted b root hs xs ss ms a e (h, P) =
+    record { says = sym (ap (λ (x : Built). x .answer) e); given = refl; holds = λ _. h ∙ sym (ap (λ (x : Built). x .tree) e); plain = λ _. P }
 
 pub draft-bad : (bs : List ℕ) → readTable bs ≡ none → refusedSpec BadTable ≡ draftOf bs
 unfolding draftOf

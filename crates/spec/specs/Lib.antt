@@ -1,28 +1,4 @@
--- What the contracts of the spec reader cite, and the laws that its proofs cite.
-pub mod Row
-pub mod Bytes
-pub mod RowLaws
-pub mod Sections
-pub mod SectionLaws
-pub mod Rows
-pub mod RowsLaws
-pub mod RowsLoop
-pub mod Entries
-pub mod Checks
-pub mod CheckLaws
-pub mod Walk
-pub mod SplitLaws
-pub mod Push
-pub mod PushLaws
-pub mod PushLoop
-pub mod Slots
-pub mod SlotLaws
-pub mod SlotsLoop
-pub mod LoadLaws
+-- What the contracts of the spec cite, and the laws that its proofs cite.
 pub mod Draft
 pub mod DraftLaws
 pub mod Whole
-pub mod Sprout
-pub mod Once
-pub mod Standing
-pub mod Accepted

@@ -1,13 +1,14 @@
 -- A spec's tree is repaired as any arena is: the rules' builtFrom is their repair, told as a spec's answer. Assumes nothing.
 use mathlib.Core.Path.{_≡_, refl, sym, ap, subst, _∙_}
 use mathlib.Core.Bool.{Bool, true, false}
-use mathlib.Core.List.{List, []}
+use mathlib.Core.List.{List, [], map}
 use mathlib.Core.Option.{Option, none, some}
 use Prim.Native.Nat.{ℕ}
-use Rattle.rules.specs.Lists.{anyOf}
 use lib.Dec.{ltb}
+use lib.Ieee.{Float}
 use lib.ListN.{length}
-use Rattle.rules.specs.Tree.{Node, Arena, arena, tile, view, emptySlots, wideNode}
+use Rattle.rules.specs.Lists.{anyOf}
+use Rattle.rules.specs.Tree.{Node, Arena, arena, tile, viewSlot, overSlot, emptySlots, wideNode}
 use Rattle.rules.specs.Table.{Table, readTable}
 use Rattle.rules.specs.Repair.{Normal, normalize, Repaired, repairedAs, repair}
 use Rattle.rules.specs.Repair as Rule
@@ -16,9 +17,13 @@ use Rattle.rules.specs.declared.model.TileTree.{TileTree}
 use Rattle.rules.specs.declared.refusal.Answer.{Answer}
 use Rattle.rules.specs.declared.refusal.Answer.the-variants.{Accepted, Refused}
 use Rattle.rules.specs.declared.refusal.Refusal.{Refusal}
-use Rattle.repair.specs.Whole.{repaired}
-use Rattle.repair.specs.declared.Repairing.{Repairing}
-use Rattle.spec.specs.Draft.{draftChecked, draftNarrow, draftWithin, draftTabled, draftOf, Drafted, repairedBy, from-draft}
+use Rattle.columns.specs.Columns.{nodesFrom}
+use Rattle.columns.specs.Pack.{overOf}
+use Rattle.repair.specs.Whole.{arenaFrom, Plain}
+use Rattle.repair.specs.Settle.{Mends}
+use Rattle.repair.specs.declared.Settled.{Settled}
+use Rattle.spec.specs.Draft.{draftChecked, draftNarrow, draftWithin, draftTabled, draftOf, Drafted, DraftedIn, refusedAs, BuiltIn, repairedBy, from-draft}
+use Rattle.spec.specs.DraftLaws.{built-refused}
 
 abbrev pub toldBy : Answer → Repaired → Built
 toldBy Accepted r = record { answer = Accepted; tree = r .tree }
@@ -71,20 +76,52 @@ draft-tree bs = tabled-tree (readTable bs)
 
 -- ---- from the draft and its repair to the whole
 
-module _ (t : TileTree) (r : Repairing) (e : repaired r ≡ repair (view t)) where
-  pub told-accepted : r .answer ≡ Accepted → Drafted (r .answer) (r .tree) (builtOf (view t))
-  told-accepted q =
-      let b : builtOf (view t) ≡ record { answer = Accepted; tree = view (r .tree) } = ap told (sym e) ∙ ap (λ (x : Answer). toldBy x (repaired r)) q in
-      record { says = q ∙ sym (ap (λ (x : Built). x .answer) b); holds = sym (ap (λ (x : Built). x .tree) b) }
+told-says : (y : Answer) (x : Repaired) → y ≡ toldBy y x .answer
+told-says Accepted x = refl
+told-says (Refused e) x = refl
 
-  pub told-refused : (f : Refusal) → r .answer ≡ Refused f → (x : Answer) (u : TileTree) → Drafted x u (refusedSpec f) → Drafted x u (builtOf (view t))
-  told-refused f q x u D = subst (Drafted x u) (sym (ap told (sym e) ∙ ap (λ (y : Answer). toldBy y (repaired r)) q)) D
+told-given : (y : Answer) (x : Repaired) → toldBy y x ≡ refusedAs y (toldBy y x)
+told-given Accepted x = refl
+told-given (Refused e) x = refl
 
-module _ (bs : List ℕ) (x : Answer) (t : TileTree) (D : Drafted x t (draftOf bs)) where
-  pub whole-accepted : x ≡ Accepted → (y : Answer) (u : TileTree) → Drafted y u (builtOf (view t)) → Drafted y u (fromSpec bs)
-  whole-accepted q y u E =
-      subst (Drafted y u)
-      (ap builtOf (D .holds ∙ draft-tree bs) ∙ built-of (draftOf bs .tree .nodes) ∙ sym (from-draft bs ∙ ap (λ (z : Answer). repairedBy z (draftOf bs)) (sym (D .says) ∙ q))) E
+-- a tree's columns, repaired
+pub told-in : (root : ℕ) (hs xs : List (List ℕ)) (ss ms : List (List Float)) (hs′ xs′ : List (List ℕ)) (ss′ ms′ : List (List Float)) (acts : List (List ℕ)) (s : Settled)
+    → Mends root hs xs ss ms hs′ xs′ ss′ ms′ acts s → BuiltIn (builtOf (arenaFrom root 0 hs xs ss ms)) (s .answer) (s .root) hs′ xs′ ss′ ms′
+told-in root hs xs ss ms hs′ xs′ ss′ ms′ acts s M =
+    let x = repair (arenaFrom root 0 hs xs ss ms) in
+    let e : told x ≡ toldBy (s .answer) x = ap (λ (y : Answer). toldBy y x) (sym (M .right 0 .answer)) in
+    record {
+      says = told-says (s .answer) x ∙ sym (ap (λ (b : Built). b .answer) e);
+      given = e ∙ told-given (s .answer) x ∙ sym (ap (refusedAs (s .answer)) e);
+      holds = λ q. sym (M .right 0 .tree q) ∙ sym (ap (λ (b : Built). b .tree) e ∙ ap (λ (y : Answer). toldBy y x .tree) q);
+      plain = M .left .plain;
+    }
 
-  pub whole-refused : (f : Refusal) → x ≡ Refused f → Drafted x t (fromSpec bs)
-  whole-refused f q = subst (Drafted x t) (sym (from-draft bs ∙ ap (λ (z : Answer). repairedBy z (draftOf bs)) (sym (D .says) ∙ q))) D
+module _ (bs : List ℕ) (x : Answer) (hs xs : List (List ℕ)) (ss ms : List (List Float)) (D : BuiltIn (draftOf bs) x 0 hs xs ss ms) where
+  by-answer : (y : Answer) → x ≡ y → fromSpec bs ≡ repairedBy y (draftOf bs)
+  by-answer y q = from-draft bs ∙ ap (λ (z : Answer). repairedBy z (draftOf bs)) (sym (D .says) ∙ q)
+
+  pub whole-accepted : x ≡ Accepted → (y : Answer) (root : ℕ) (hs′ xs′ : List (List ℕ)) (ss′ ms′ : List (List Float)) → BuiltIn (builtOf (arenaFrom 0 0 hs xs ss ms)) y root hs′ xs′ ss′ ms′
+      → BuiltIn (fromSpec bs) y root hs′ xs′ ss′ ms′
+  whole-accepted q y root hs′ xs′ ss′ ms′ E =
+      subst (λ (b : Built). BuiltIn b y root hs′ xs′ ss′ ms′) (ap builtOf (D .holds q ∙ draft-tree bs) ∙ built-of (draftOf bs .tree .nodes) ∙ sym (by-answer Accepted q)) E
+
+  pub whole-refused : (f : Refusal) → x ≡ Refused f → BuiltIn (fromSpec bs) x 0 hs xs ss ms
+  whole-refused f q =
+      subst (λ (y : Answer). BuiltIn (fromSpec bs) y 0 hs xs ss ms) (sym q)
+      (built-refused (fromSpec bs) f 0 hs xs ss ms (sym (by-answer (Refused f) q ∙ D .given ∙ ap (λ (z : Answer). refusedAs z (draftOf bs)) q)))
+
+-- ---- a refused one's columns are cleared, and any are packed
+
+module _ (b : Built) (x : Answer) (root : ℕ) (hs xs : List (List ℕ)) (ss ms : List (List Float)) (D : BuiltIn b x root hs xs ss ms) where
+  pub in-accepted : x ≡ Accepted → DraftedIn x root hs xs ss ms b
+  in-accepted q = record { says = D .says; holds = D .holds q; plain = D .plain q }
+
+  pub in-refused : (f : Refusal) → x ≡ Refused f → (hs′ xs′ : List (List ℕ)) (ss′ ms′ : List (List Float)) → (arenaFrom 0 0 hs′ xs′ ss′ ms′ ≡ refusedSpec f .tree) × Plain hs′ xs′ ss′ ms′
+      → DraftedIn x 0 hs′ xs′ ss′ ms′ b
+  in-refused f q hs′ xs′ ss′ ms′ (h, P) =
+      record { says = D .says; holds = h ∙ sym (ap (λ (y : Built). y .tree) (D .given ∙ ap (λ (z : Answer). refusedAs z b) q)); plain = P }
+
+pub packed-in : (b : Built) (x : Answer) (root : ℕ) (hs xs : List (List ℕ)) (ss ms : List (List Float)) → DraftedIn x root hs xs ss ms b → (t : TileTree) → t .root ≡ tile root → t .revision ≡ 0
+    → (map viewSlot (t .slots) ≡ nodesFrom hs xs ss ms) × (anyOf overSlot (t .slots) ≡ anyOf overOf hs) → Drafted x t b
+packed-in b x root hs xs ss ms D t r v (n, o) = record { says = D .says; holds = (λ j. record { root = r j; revision = v j; nodes = n j; over = o j }) ∙ D .holds }

@@ -1,102 +1,68 @@
-// A spec's tree before its repair: the Rust's `from_spec` (tree.rs) up to `normalize`, with document 01's refusals in their order.
-use crate::entry::too_wide;
-use crate::preorder::read_table;
-use crate::push::push_spec;
-use crate::slot::empty_slot;
-use crate::slots::slots_of;
-use crate::table::Places;
-use crate::table::Sections;
-use crate::validate::Checked;
-use crate::validate::check_rows;
-use rules::model::Kind;
-use rules::model::Slot;
-use rules::model::TabBarPlacement;
-use rules::model::TileId;
+// A spec's tree before its repair, in columns: the Rust's `from_spec` (tree.rs) up to `normalize`, with document 01's refusals in their order.
+use build::push::push_spec;
+use build::slots::slots_into;
+use checks::entry::too_wide;
+use checks::validate::Checked;
+use checks::validate::check_rows;
 use rules::model::TileTree;
 use rules::refusal::Answer;
 use rules::refusal::Refusal;
+use table::preorder::read_table;
+use table::sections::Places;
+use table::sections::Sections;
 ghost use mathlib.Core.Path.{_≡_};
-ghost use Rattle.rules.specs.Tree.{view, arena, tile, emptyGroup};
-ghost use Rattle.rules.specs.Spec.{builtNodes, refusedSpec};
-ghost use Rattle.spec.specs.Rows.{tableOf};
-ghost use Rattle.spec.specs.Slots.{SlotIs};
-ghost use Rattle.spec.specs.Draft.{Passed, Drafted, draftOf};
+ghost use Rattle.rules.specs.Tree.{arena, tile};
+ghost use Rattle.rules.specs.Spec.{builtNodes};
+ghost use Rattle.table.specs.Rows.{tableOf};
+ghost use Rattle.build.specs.Slots.{Bare};
+ghost use Rattle.repair.specs.Whole.{arenaFrom, Plain};
+ghost use Rattle.spec.specs.Draft.{Passed, BuiltIn, draftOf};
 
 pub struct Draft {
     pub answer: Answer,
     pub tree: TileTree,
 }
 
-// An empty Hidden group.
-fn group_slot() -> Slot
-    ensures { λ r. ⌜ SlotIs r emptyGroup ⌝ }
-{
-    let panes = lists::ids::empty();
-    let children = lists::tiles::empty();
-    let reals = lists::reals::empty();
-    Slot {
-        kind: Kind::Tabs(TabBarPlacement::Hidden),
-        active: 0,
-        panes,
-        children,
-        shares: reals,
-        minima: reals,
-    }
-}
-
-// A refused spec: an empty Hidden group as root in slot 0, nothing else, revision 0.
-pub fn refused(e: Refusal) -> Draft
-    ensures { λ r. ⌜ Drafted (r .answer) (r .tree) (refusedSpec e) ⌝ }
-{
-    let none = empty_slot();
-    let mut slots = [none; 64];
-    let group = group_slot();
-    slots[0] = group;
-    let tree = TileTree {
-        root: TileId { slot: 0 },
-        revision: 0,
-        slots,
-    };
-    Draft {
-        answer: Answer::Refused(e),
-        tree,
-    }
-}
-
 // A table that passed every check, built: slot = row number.
-fn built_tree(b: &[u8], t: Places) -> TileTree
-    requires { ⌜ Passed (now b) t ⌝ }
-    ensures { λ r. ⌜ view r ≡ arena (tile 0) 0 (builtNodes (tableOf (now (b .entry)) t)) ⌝ }
+fn built_into(
+    b: &[u8],
+    t: Places,
+    heads: &mut [[u64; 8]; 64],
+    ids: &mut [[u64; 16]; 64],
+    shares: &mut [[f64; 16]; 64],
+    minima: &mut [[f64; 16]; 64],
+)
+    requires { ⌜ (Passed (now b) t) × (Bare (now heads) (now ids) (now shares) (now minima)) ⌝ }
+    ensures { λ _. ⌜ (arenaFrom 0 0 (now (heads .exit)) (now (ids .exit)) (now (shares .exit)) (now (minima .exit)) ≡ arena (tile 0) 0 (builtNodes (tableOf (now (b .entry)) t))) × (Plain (now (heads .exit)) (now (ids .exit)) (now (shares .exit)) (now (minima .exit))) ⌝ }
 {
     let mut kids = [0u64; 1024];
     let end = push_spec(b, t, &mut kids, 0);
-    let slots = slots_of(b, t, &kids, end);
-    TileTree {
-        root: TileId { slot: 0 },
-        revision: 0,
-        slots,
-    }
+    slots_into(b, t, &kids, end, heads, ids, shares, minima)
 }
 
 // 1, then 2 (over 64 rows), then 3 (a row over 16 children or panes), then the Rust's checks in preorder.
-pub fn build(b: &[u8]) -> Draft
-    ensures { λ r. ⌜ Drafted (r .answer) (r .tree) (draftOf (now (b .entry))) ⌝ }
+pub fn build_into(
+    b: &[u8],
+    heads: &mut [[u64; 8]; 64],
+    ids: &mut [[u64; 16]; 64],
+    shares: &mut [[f64; 16]; 64],
+    minima: &mut [[f64; 16]; 64],
+) -> Answer
+    requires { ⌜ Bare (now heads) (now ids) (now shares) (now minima) ⌝ }
+    ensures { λ r. ⌜ BuiltIn (draftOf (now (b .entry))) r 0 (now (heads .exit)) (now (ids .exit)) (now (shares .exit)) (now (minima .exit)) ⌝ }
 {
     let Sections::Four(t) = read_table(b) else {
-        return refused(Refusal::BadTable);
+        return Answer::Refused(Refusal::BadTable);
     };
     if 64 < t.row_count {
-        return refused(Refusal::ArenaFull);
+        return Answer::Refused(Refusal::ArenaFull);
     }
     if too_wide(b, t) {
-        return refused(Refusal::TooWide);
+        return Answer::Refused(Refusal::TooWide);
     }
     if let Checked::Bad(e) = check_rows(b, t) {
-        return refused(e);
+        return Answer::Refused(e);
     }
-    let tree = built_tree(b, t);
-    Draft {
-        answer: Answer::Accepted,
-        tree,
-    }
+    built_into(b, t, heads, ids, shares, minima);
+    Answer::Accepted
 }
