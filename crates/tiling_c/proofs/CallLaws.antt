@@ -26,7 +26,7 @@ use Rattle.rules.specs.declared.refusal.Answer.the-variants.{Accepted, Refused}
 use Rattle.rules.specs.declared.refusal.Refusal.{Refusal}
 use Rattle.rules.specs.declared.refusal.Refusal.the-variants.{BadTable, ArenaFull, TooWide, NotSound, BadInput, InvalidTileId, InvalidPaneId, InvalidTarget, InvalidOperation, DuplicatePane, RevisionExhausted, EmptyTabs, TooFewSplitChildren, ShareCountMismatch, InvalidShare, TooManySplitConstraints, InvalidSplitConstraint, InvalidActiveTab}
 use Rattle.columns.specs.Columns.{Lists}
-use Rattle.spec.specs.Draft.{Drafted}
+use Rattle.spec.specs.Draft.{DraftedIn}
 use Rattle.repair.specs.Whole.{arenaFrom}
 use Rattle.repair.specs.Settle.{Comes}
 use Rattle.repair.specs.declared.Settled.{Settled}
@@ -73,8 +73,9 @@ no-both b p q = let z : _≡_ {A = ℕ} 0 1 = cc in omega arith
 
 -- ---- from_spec
 
-pub builds : (bs : List ℕ) (a : Answer) (t : TileTree) (l′ : Lot) (out′ : List ℕ) (n : ℕ) → Drafted a t (fromSpec bs) → Holds (view t) l′ → Tells a 0 0 out′ n → Builds bs l′ out′ n
-builds bs a t l′ out′ n D H T =
+pub builds : (bs : List ℕ) (a : Answer) (root : ℕ) (hs xs : List (List ℕ)) (ss ms : List (List Float)) (l′ : Lot) (out′ : List ℕ) (n : ℕ) → DraftedIn a root hs xs ss ms (fromSpec bs)
+    → Holds (arenaFrom root 0 hs xs ss ms) l′ → Tells a 0 0 out′ n → Builds bs l′ out′ n
+builds bs a root hs xs ss ms l′ out′ n D H T =
     record {
       tree = subst (λ (x : Arena). Holds x l′) (D .holds) H;
       told = subst (λ (x : Answer). Tells x 0 0 out′ n) (D .says) T;

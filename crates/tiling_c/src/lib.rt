@@ -32,10 +32,25 @@ pub extern "C" fn tiling_from_spec(
 ) -> u64
     ensures { λ r. ⌜ Builds (now (bytes .entry)) (lot (now (top .exit)) (now (heads .exit)) (now (ids .exit)) (now (shares .exit)) (now (minima .exit))) (now (out .exit)) r ⌝ }
 {
-    let d = tiling::from_spec(bytes);
-    let tree = d.tree;
-    arena::store(tree, top, heads, ids, shares, minima);
-    let answer = d.answer;
+    let mut made = [[0u64; 8]; 64];
+    let mut rows = [[0u64; 16]; 64];
+    let mut parts = [[0.0f64; 16]; 64];
+    let mut least = [[0.0f64; 16]; 64];
+    let r = spec::whole::spec_into(bytes, &mut made, &mut rows, &mut parts, &mut least);
+    back::store_columns(
+        r.root,
+        0,
+        &made,
+        &rows,
+        &parts,
+        &least,
+        top,
+        heads,
+        ids,
+        shares,
+        minima,
+    );
+    let answer = r.answer;
     told::tell(answer, 0, 0, out)
 }
 
