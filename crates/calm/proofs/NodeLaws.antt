@@ -1,5 +1,5 @@
 -- Laws that the proof of the cycle cites, over plain values: a tile that ends the walk, a leaf, a split opened, and its children one by one. Assumes nothing.
-use mathlib.Core.Path.{_≡_, refl, sym, ap, subst, _∙_}
+use mathlib.Core.Path.{_≡_, refl, sym, ap, _∙_}
 use mathlib.Core.Bool.{Bool, true, false, _&&_, cond}
 use mathlib.Core.List.{List, [], _∷_, map}
 use mathlib.Core.Option.{Option, none, some}
@@ -13,19 +13,18 @@ use lib.Seq.{drop-cons}
 use lib.Ieee.{Float}
 use Rattle.rules.specs.Shares.{repairedShares, eqReals}
 use Rattle.rules.specs.Minima.{alignedConstraints, compactConstraints}
-use Rattle.rules.specs.Tree.{Node, pane, nodeAt, tile, ids, reals}
+use Rattle.rules.specs.Tree.{Node, nodeAt, tile, ids, reals}
 use Rattle.rules.specs.Repair.{Entry, entry, entries, melts}
 use Rattle.rules.specs.declared.model.TileId.{TileId}
 use Rattle.rules.specs.declared.model.Axis.{Axis}
 use Rattle.forest.specs.Lists.{free, free-set}
 use Rattle.forest.specs.Still.{noneLost}
-use Rattle.normalize.specs.Walked.{Even, entriesOf}
+use Rattle.normalize.specs.Walked.{entriesOf}
 use Rattle.normalize.specs.Splits.{Loaded, Mends}
 use Rattle.normalize.specs.declared.Kids.{Kids}
-use Rattle.calm.specs.Calm.{Look, look, taking, calmPanes, seeing, calmGroup, unmelted, andThen, calmKids, calmSplit, calmNode, calmTile, calm, calmEnd}
-use Rattle.calm.specs.Reads.{sighted, looked, Sights, Groups, Reads, Holding}
+use Rattle.calm.specs.Calm.{Look, look, taking, calmPanes, seeing, calmGroup, unmelted, calmKids, calmSplit, calmNode, calmTile, calm, calmEnd}
+use Rattle.calm.specs.Reads.{sighted, looked, Sights, Groups, Reads}
 use Rattle.calm.specs.declared.Calm.{Calm}
-use Rattle.calm.specs.declared.nodes.Held.{Held}
 
 -- ---- a tile that ends the walk
 

@@ -4,17 +4,17 @@ use mathlib.Core.Logic.{_≢_}
 use mathlib.Core.Bool.{Bool, true, false, not, _||_, cond}
 use mathlib.Core.List.{List, [], _∷_, _++_}
 use mathlib.Core.Option.{Option, none, some}
-use Prim.Native.Nat.{ℕ, zero, suc, _≤_, _<_}
+use Prim.Native.Nat.{ℕ, zero, suc}
 use native.Mathlib.Omega.{arith}
 use borrow.Author.Tests.{leb-false, ltb-true, ltb-false, eqb-true, leb-true, eq-eqb}
 use lib.Dec.{leb, ltb, eqb}
-use lib.ListN.{length, getD, getElem?, set, length-set}
+use lib.ListN.{length, getD, getElem?, length-set}
 use lib.Ieee.{Float}
 use Rattle.rules.specs.Lists.{contains}
 use Rattle.rules.specs.Shares.{repairedShares, eqReals}
 use Rattle.rules.specs.Minima.{alignedConstraints, compactConstraints}
 use Rattle.rules.specs.Tree.{Node, empty, pane, tabs, split, nodeAt}
-use Rattle.rules.specs.Repair.{addedIf, State, Work, Out, state, claim, paneBy, Sifted, sifted, siftBy, retain, activeOf, groupLeft, groupStep, Entry, entries, Run, run, melts, placeBy, place, placeOut, kidsFrom, childrenOf, sharesOf, splitLeft, splitNoted, splitStep, byNode, byClaimed, byRange, tileStep, normalizeNode}
+use Rattle.rules.specs.Repair.{addedIf, State, Work, Out, state, claim, paneBy, Sifted, sifted, siftBy, retain, activeOf, groupLeft, groupStep, Entry, entries, Run, run, melts, placeBy, place, placeOut, kidsFrom, sharesOf, splitLeft, splitNoted, splitStep, byNode, byClaimed, byRange, tileStep, normalizeNode}
 use Rattle.rules.specs.declared.model.TileId.{TileId}
 use Rattle.rules.specs.declared.model.Axis.{Axis}
 use Rattle.rules.specs.declared.model.TabBarPlacement.{TabBarPlacement}
@@ -25,8 +25,8 @@ use Rattle.forest.specs.Equal.{shares-kept}
 use Rattle.forest.specs.Codec.{Least, start-least, long-children}
 use Rattle.forest.specs.Grow.{Good, Works, good-after, kid-keeps, tile-keeps, active-lt}
 use Rattle.forest.specs.Again.{active-same}
-use Rattle.forest.specs.Quiet.{plainNode, passed, added-never, addedIf-none, Keeping, Mono, Silent, silent-chain, grown-mono, Hushed, retain-grows, group-grows, place-grows, split-grows, kids-grow, noted-none, walk-grows, retain-hushed, kids-hushed, walk-hushed, children-back, shares-back}
-use Rattle.calm.specs.Calm.{Look, look, taking, calmPanes, seeing, calmGroup, unmelted, andThen, calmKids, calmSplit, calmNode, calmTile, calm}
+use Rattle.forest.specs.Quiet.{plainNode, passed, added-never, addedIf-none, Keeping, Mono, Silent, Hushed, retain-grows, group-grows, place-grows, split-grows, kids-grow, noted-none, walk-grows, retain-hushed, kids-hushed, walk-hushed, children-back, shares-back}
+use Rattle.calm.specs.Calm.{Look, look, taking, calmPanes, seeing, calmGroup, unmelted, calmKids, calmSplit, calmNode, calmTile, calm}
 
 -- nothing was noted, and these are claimed and seen; or something was noted
 abbrev pub Tracks : Option Look → Work → Type 0

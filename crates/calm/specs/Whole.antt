@@ -1,21 +1,19 @@
 -- Repair lists nothing exactly where the walk that only reads comes to its end and leaves no occupied slot out. Assumes nothing.
 use mathlib.Core.Path.{_≡_, refl, sym, ap, _∙_}
 use mathlib.Core.Bool.{Bool, true, false, _&&_, _||_}
-use mathlib.Core.List.{List, [], _∷_, map}
+use mathlib.Core.List.{List, [], _∷_}
 use mathlib.Core.Option.{Option, none, some}
-use Prim.Native.Nat.{ℕ, zero, suc}
+use Prim.Native.Nat.{ℕ, suc}
 use native.Mathlib.Omega.{arith}
 use lib.Dec.{ltb}
 use lib.ListN.{length, getD, replicate, length-map}
-use lib.Ieee.{Float}
 use Rattle.rules.specs.Numbers.{plus}
 use Rattle.rules.specs.Lists.{anyOf, wideList}
 use Rattle.rules.specs.Tree.{Node, empty, pane, tabs, split, Arena, isEmpty, wideNode, emptySlots, readingFrom}
-use Rattle.rules.specs.Repair.{Normal, Work, Out, begin, normalizeNode, sweep, sweepActions, swept, rooted, normalize, Repaired, repairedBy, repairedAs, repair}
+use Rattle.rules.specs.Repair.{Normal, Work, Out, begin, normalizeNode, sweep, sweepActions, swept, rooted, normalize, repairedBy, repairedAs, repair}
 use Rattle.rules.specs.Sound.{isNone}
 use Rattle.rules.specs.declared.model.TileId.{TileId}
 use Rattle.rules.specs.declared.model.RepairAction.{RepairAction}
-use Rattle.forest.specs.Lists.{never, none-at}
 use Rattle.forest.specs.Actions.{all-narrow}
 use Rattle.forest.specs.Grow.{tile-keeps}
 use Rattle.forest.specs.Finish.{repair-whole}

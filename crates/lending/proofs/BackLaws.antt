@@ -1,13 +1,13 @@
 -- Laws of heads as they are written back: they show the same arena, and every call takes their codes. Assumes nothing.
-use mathlib.Core.Path.{_≡_, refl, sym, ap, _∙_}
-use mathlib.Core.Bool.{Bool, true, _&&_, _||_}
+use mathlib.Core.Path.{_≡_, refl, ap, _∙_}
+use mathlib.Core.Bool.{true, _&&_, _||_}
 use mathlib.Core.List.{List, [], _∷_, map}
 use Prim.Native.Nat.{ℕ, zero, suc, _≤_, _<_}
 use native.Mathlib.Omega.{arith}
 use lib.ListN.{getD, take}
 use lib.Ieee.{Float}
 use Rattle.rules.specs.Lists.{anyOf, allOf}
-use Rattle.rules.specs.Tree.{Node, tabs, split, tile, barCode, axisCode}
+use Rattle.rules.specs.Tree.{tabs, split, tile, barCode, axisCode}
 use Rattle.rules.specs.declared.model.Axis.{Axis}
 use Rattle.rules.specs.declared.model.Axis.the-variants.{Horizontal, Vertical}
 use Rattle.rules.specs.declared.model.TabBarPlacement.{TabBarPlacement}
