@@ -1,11 +1,15 @@
 #!/bin/sh
-# Makes libtiling_c.a where it is missing: the proved library that rust/tiling
-# links. TILING_LIB names another folder that holds it.
+# Makes libtiling_c.a where it is missing or older than the code: the proved
+# library that rust/tiling links. TILING_LIB names another folder that holds it.
 set -eu
 cd "$(dirname "$0")/.."
 folder="${TILING_LIB:-target/staticlib}"
-if [ -f "$folder/libtiling_c.a" ]; then
-    exit 0
+archive="$folder/libtiling_c.a"
+if [ -f "$archive" ]; then
+    newer="$(find crates crates.txt -newer "$archive" \( -name '*.rt' -o -name '*.antt' -o -name crates.txt \) | head -n 1)"
+    if [ -n "${TILING_LIB:-}" ] || [ -z "$newer" ]; then
+        exit 0
+    fi
 fi
 if [ -n "${TILING_LIB:-}" ]; then
     echo "libtiling_c.a is not in $folder, where TILING_LIB says" >&2
