@@ -1,12 +1,11 @@
--- Laws of an arena in lent columns: what is read from them, and what a tree leaves there. Assumes nothing.
+-- Laws of an arena in lent columns: what a tree leaves there. Assumes nothing.
 use mathlib.Core.Path.{_≡_, refl, ap, _∙_}
 use mathlib.Core.Bool.{_||_}
 use mathlib.Core.List.{List, [], _∷_, map}
 use Prim.Native.Nat.{ℕ}
-use lib.ListN.{getD}
 use lib.Ieee.{Float}
 use Rattle.rules.specs.Lists.{anyOf}
-use Rattle.rules.specs.Tree.{tile, viewSlot, overBy, overSlot, view}
+use Rattle.rules.specs.Tree.{overBy, overSlot, view}
 use Rattle.rules.specs.declared.model.Kind.{Kind}
 use Rattle.rules.specs.declared.model.Kind.the-variants.{Empty, Pane, Tabs, Split}
 use Rattle.rules.specs.declared.model.Slot.{Slot}
@@ -14,7 +13,7 @@ use Rattle.rules.specs.declared.model.TileTree.{TileTree}
 use Rattle.columns.specs.Columns.{nodesFrom}
 use Rattle.columns.specs.Pack.{headBy, headOf, overOf, Unpacks}
 use Rattle.columns.specs.PackLaws.{unpacked}
-use Rattle.lending.specs.Lent.{lot, lent, codesOk}
+use Rattle.lending.specs.Lent.{lot, codesOk}
 use Rattle.lending.specs.Parts.{Holds}
 use Rattle.lending.proofs.CodeLaws.{heads-ok}
 
@@ -29,10 +28,6 @@ heads-over : (ss : List Slot) → anyOf overOf (map headOf ss) ≡ anyOf overSlo
 unfolding anyOf
 heads-over [] = refl
 heads-over (s ∷ ss) = λ z. head-over (s .kind) s z || heads-over ss z
-
-pub loaded : (s : List Slot) (top : List ℕ) (hs xs : List (List ℕ)) (ss ms : List (List Float)) → (map viewSlot s ≡ nodesFrom hs xs ss ms) × (anyOf overSlot s ≡ anyOf overOf hs)
-    → view (record { root = tile (getD top 0 0); revision = getD top 1 0; slots = s }) ≡ lent (lot top hs xs ss ms)
-loaded s top hs xs ss ms (p, o) = λ z. record { root = tile (getD top 0 0); revision = getD top 1 0; nodes = p z; over = o z }
 
 pub stored : (t : TileTree) (hs xs : List (List ℕ)) (ss ms : List (List Float)) → Unpacks (t .slots) hs xs ss ms → Holds (view t) (lot (t .root .slot ∷ t .revision ∷ []) hs xs ss ms)
 stored t hs xs ss ms U =

@@ -30,8 +30,8 @@ use Rattle.spec.specs.Draft.{DraftedIn}
 use Rattle.repair.specs.Whole.{arenaFrom}
 use Rattle.repair.specs.Settle.{Comes}
 use Rattle.repair.specs.declared.Settled.{Settled}
-use Rattle.ops.specs.Steps.{applied}
-use Rattle.ops.specs.declared.Applying.{Applying}
+use Rattle.ops.specs.Steps.{Comes as Becomes}
+use Rattle.ops.specs.declared.AppliedIn.{AppliedIn}
 use Rattle.layout.specs.Whole.{LaysOut}
 use Rattle.layout.specs.declared.LaidOut.{LaidOut}
 use Rattle.solver.specs.Call.{Clear}
@@ -117,16 +117,17 @@ sound-is l a s g v e = λ z. soundCode (sym g z) ((e ∙ ap sound v) z)
 pub applies-bad : (l : Lot) (w : List ℕ) (f : Float) (out : List ℕ) → (lotOk l && opOk w) ≡ false → Applies l w f out l out 5
 applies-bad l w f out b = record { bad = λ e. (refl, refl, refl); good = λ e. absurd (no-both (lotOk l && opOk w) b e) }
 
-pub applies-good : (l : Lot) (w : List ℕ) (f : Float) (out : List ℕ) (t : TileTree) (op : TileOp) (d : Applying) (l′ : Lot) (out′ : List ℕ) (n : ℕ) → (lotOk l && opOk w) ≡ true
-    → view t ≡ lent l → op ≡ opFrom w f → applied d ≡ apply (view t) op → Tells (d .answer) 0 0 out′ n → Keeps n (view (d .tree)) l l′ → Applies l w f out l′ out′ n
-applies-good l w f out t op d l′ out′ n g v o r T K =
+-- a is the arena lent, and the rule's answer for it is what the columns came to
+pub applies-good : (l : Lot) (w : List ℕ) (f : Float) (out : List ℕ) (a : Arena) (op : TileOp) (hs xs : List (List ℕ)) (ss ms : List (List Float)) (d : AppliedIn) (l′ : Lot) (out′ : List ℕ) (n : ℕ) → (lotOk l && opOk w) ≡ true
+    → a ≡ lent l → op ≡ opFrom w f → Becomes a (apply a op) d hs xs ss ms → Tells (d .answer) 0 0 out′ n → Keeps n (arenaFrom (d .root) (d .revision) hs xs ss ms) l l′ → Applies l w f out l′ out′ n
+applies-good l w f out a op hs xs ss ms d l′ out′ n g v o C T K =
     record {
       bad = λ e. absurd (no-both (lotOk l && opOk w) e g);
-      good = λ e. subst (λ (x : Applied). Changes x l l′ out′ n) (r ∙ (λ z. apply (v z) (o z)))
+      good = λ e. subst (λ (x : Applied). Changes x l l′ out′ n) (λ z. apply (v z) (o z))
           (record {
-            told = T;
-            accepted = λ a. K .stored (zero-accepted (d .answer) n (T .number) a);
-            refused = λ f q. K .left (not-refused (d .answer) n (T .number) f q);
+            told = subst (λ (y : Answer). Tells y 0 0 out′ n) (C .answer) T;
+            accepted = λ p. let q = C .answer ∙ p in subst (λ (y : Arena). Holds y l′) (sym (C .tree q .0)) (K .stored (zero-accepted (d .answer) n (T .number) q));
+            refused = λ f p. K .left (not-refused (d .answer) n (T .number) f (C .answer ∙ p));
           });
     }
 

@@ -148,13 +148,38 @@ pub extern "C" fn tiling_apply(
     if !codes::op_ok(words) {
         return BAD_INPUT;
     }
-    let t = arena::load(top, heads, ids, shares, minima);
+    arena::sized(heads, ids, shares, minima);
     let op = operation::op_of(words, fraction);
-    let d = tiling::apply(t, op);
+    let mut plain = tidy::tidy(heads);
+    let mut rows = *ids;
+    let mut parts = *shares;
+    let mut least = *minima;
+    let given = *top;
+    let d = ops::whole::apply_columns(
+        given[0],
+        given[1],
+        op,
+        &mut plain,
+        &mut rows,
+        &mut parts,
+        &mut least,
+    );
     let answer = d.answer;
     let n = told::tell(answer, 0, 0, out);
-    let changed = d.tree;
-    arena::keep(n, changed, top, heads, ids, shares, minima);
+    back::keep_columns(
+        n,
+        d.root,
+        d.revision,
+        &plain,
+        &rows,
+        &parts,
+        &least,
+        top,
+        heads,
+        ids,
+        shares,
+        minima,
+    );
     n
 }
 

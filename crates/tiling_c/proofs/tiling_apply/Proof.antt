@@ -1,8 +1,9 @@
--- `tiling_c::tiling_apply`: codes that are none, or what the change answered. Assumes nothing.
+-- `tiling_c::tiling_apply`: codes that are none, or what the change of a copy of the columns came to. Assumes nothing.
 use mathlib.Core.Path.{_≡_, sym, ap, _∙_}
 use mathlib.Core.Bool.{Bool, true, false, _&&_}
 use borrow.Author.Tests.{not-true, not-false}
-use Rattle.lending.specs.Lent.{lot, lotOk, opOk}
+use Rattle.lending.specs.Lent.{lot, lent, lotOk, opOk}
+use Rattle.lending.proofs.TidyLaws.{tidy-lent, tidy-plain}
 use Rattle.tiling_c.proofs.CallLaws.{applies-bad, applies-good}
 use borrow.Author.Needs.{needs}
 use Rattle.tiling_c.proofs.tiling_apply.Statement.{statement}
@@ -30,36 +31,65 @@ returns-2 c =
     let h : opOk (a .words .now) ≡ false = sym (o .op-ok .ensures) ∙ not-true (o .op-ok .result) (c .if2 .taken) in
     applies-bad (lot (a .top .now) (a .heads .now) (a .ids .now) (a .shares .now) (a .minima .now)) (a .words .now) (a .fraction) (a .out .now) (λ z. g z && h z)
 
-load-requires : tie.Need-load-requires
-load-requires c κs = search needs
+sized-requires : tie.Need-sized-requires
+sized-requires c κs = search needs
 
 op-of-requires : tie.Need-op-of-requires
 op-of-requires c κs = search needs
 
-apply-requires : tie.Need-apply-requires
-apply-requires c κs = search needs
+tidy-requires : tie.Need-tidy-requires
+tidy-requires c κs = search needs
+
+array-read-apply-columns : tie.Need-array-read-apply-columns
+array-read-apply-columns c = search needs
+
+array-read-apply-columns-2 : tie.Need-array-read-apply-columns-2
+array-read-apply-columns-2 c = search needs
+
+apply-columns-requires : tie.Need-apply-columns-requires
+apply-columns-requires c κs =
+    let y = c .before .before .before .before .before .before .before .before in
+    let z = y .before .before .before in
+    let a = z .before .before .before .before .before .before .before .before .before .before .args in
+    tidy-plain (a .heads .now) (y .tidy .result) (a .ids .now) (a .shares .now) (a .minima .now) (y .tidy .ensures) (z .sized .ensures)
 
 tell-requires : tie.Need-tell-requires
 tell-requires c κs = search needs
 
-keep-requires : tie.Need-keep-requires
-keep-requires c κs = search needs
+keep-columns-requires : tie.Need-keep-columns-requires
+keep-columns-requires c κs = search needs
 
 returns-3 : tie.Need-returns-3
 returns-3 c =
-    let t = c .before .before .before .before .before .before .before in
-    let p = t .before .before in
-    let q = p .before in
-    let l = q .before in
-    let f = l .before .before .before .before .before .before in
+    let t = c .before .before .before .before .before .before .before .before .before .before in
+    let r = t .before .before in
+    let y = r .before .before .before .before .before .before .before .before .before in
+    let q = y .before .before in
+    let z = q .before in
+    let f = z .before .before .before .before .before in
     let o = f .before in
     let e = o .before in
     let k = e .before in
     let a = k .before .before .args in
     let g : lotOk (lot (a .top .now) (a .heads .now) (a .ids .now) (a .shares .now) (a .minima .now)) ≡ true = sym (k .codes-ok .ensures) ∙ not-false (k .codes-ok .result) (e .if1 .left) in
     let h : opOk (a .words .now) ≡ true = sym (o .op-ok .ensures) ∙ not-false (o .op-ok .result) (f .if2 .left) in
-    applies-good (lot (a .top .now) (a .heads .now) (a .ids .now) (a .shares .now) (a .minima .now)) (a .words .now) (a .fraction) (a .out .now) (l .load .result) (q .op-of .result) (p .apply .result) _ _ (t .tell .result) (λ z. g z && h z)
-    (l .load .ensures) (q .op-of .ensures) (p .apply .ensures .0) (t .tell .ensures) (c .keep .ensures)
+    applies-good (lot (a .top .now) (a .heads .now) (a .ids .now) (a .shares .now) (a .minima .now)) (a .words .now) (a .fraction) (a .out .now) (lent (lot (a .top .now) (y .tidy .result) (a .ids .now) (a .shares .now) (a .minima .now))) (q .op-of .result) _ _ _ _ (r .apply-columns .result) _ _ (t .tell .result) (λ z. g z && h z)
+    (tidy-lent (a .heads .now) (y .tidy .result) (a .ids .now) (a .shares .now) (a .minima .now) (y .tidy .ensures) (a .top .now)) (q .op-of .ensures) (r .apply-columns .ensures .0) (t .tell .ensures) (c .keep-columns .ensures)
 
 pub tiling-apply-spec : {M : Type 1} → statement M
-tiling-apply-spec = tie.close (tie.spec codes-ok-requires returns op-ok-requires returns-2 load-requires op-of-requires apply-requires tell-requires keep-requires returns-3)
+tiling-apply-spec =
+    tie.close
+    (tie.spec
+    codes-ok-requires
+    returns
+    op-ok-requires
+    returns-2
+    sized-requires
+    op-of-requires
+    tidy-requires
+    array-read-apply-columns
+    array-read-apply-columns-2
+    apply-columns-requires
+    tell-requires
+    keep-columns-requires
+    returns-3)
