@@ -1,6 +1,5 @@
 pub mod CodeLaws
 pub mod ReadLaws
-pub mod ArenaLaws
 pub mod TidyLaws
 pub mod WriteLaws
 pub mod BackLaws

@@ -1,11 +1,7 @@
-// The lengths of lent columns, and a tree written to them.
+// The lengths of lent columns.
 use crate::codes;
-use rules::model::TileTree;
 ghost use mathlib.Core.Path.{_≡_};
 ghost use lib.ListN.{length};
-ghost use Rattle.rules.specs.Tree.{view};
-ghost use Rattle.lending.specs.Lent.{lot};
-ghost use Rattle.lending.specs.Parts.{Holds};
 
 // The lengths of the arrays that are lent, which only those by value tell.
 fn id_places(ids: [[u64; 16]; 64])
@@ -31,22 +27,4 @@ pub fn sized(
     real_places(b);
     let c = *minima;
     real_places(c);
-}
-
-pub fn store(
-    tree: TileTree,
-    top: &mut [u64; 2],
-    heads: &mut [[u64; 8]; 64],
-    ids: &mut [[u64; 16]; 64],
-    shares: &mut [[f64; 16]; 64],
-    minima: &mut [[f64; 16]; 64],
-)
-    ensures { λ r. ⌜ Holds (view tree) (lot (now (top .exit)) (now (heads .exit)) (now (ids .exit)) (now (shares .exit)) (now (minima .exit))) ⌝ }
-{
-    sized(heads, ids, shares, minima);
-    let root = tree.root;
-    let words = [root.slot, tree.revision];
-    *top = words;
-    let slots = tree.slots;
-    columns::unpack::unpack(slots, heads, ids, shares, minima);
 }

@@ -7,7 +7,6 @@ use crate::Walk;
 use crate::rows;
 use columns::actions;
 use lists::ids as id_list;
-use lists::reals;
 use rules::model::Ids;
 use rules::model::Reals;
 use util::minima as constraints;

@@ -11,11 +11,10 @@ use Rattle.rules.specs.declared.model.RepairAction.{RepairAction}
 use Rattle.rules.specs.declared.refusal.Answer.{Answer}
 use Rattle.rules.specs.declared.refusal.Answer.the-variants.{Accepted, Refused}
 use Rattle.rules.specs.declared.refusal.Refusal.{Refusal}
-use Rattle.forest.specs.Finish.{normalized}
 use Rattle.columns.specs.Columns.{nodesFrom, Lists}
 use Rattle.columns.specs.Pack.{overOf, reported}
-use Rattle.repair.specs.Whole.{repaired, Columned, arenaFrom, Repairs, Normalizes, Returns, Packs}
-use Rattle.repair.specs.Settle.{Comes, Settles, Mends}
+use Rattle.repair.specs.Whole.{repaired, Columned, arenaFrom, Repairs, Returns, Packs}
+use Rattle.repair.specs.Settle.{Comes, Mends}
 use Rattle.repair.specs.declared.Settled.{Settled}
 use Rattle.repair.specs.declared.Repairing.{Repairing}
 use Rattle.repair.proofs.StillLaws.{tree-shown}
@@ -63,13 +62,6 @@ module _ (t : TileTree) (gs ys : List (List ℕ)) (us ns : List (List Float)) (K
 
   shown : a ≡ view t
   shown = tree-shown t gs ys us ns K
-
-  pub packed-normalizes : (spare : ℕ) → Settles (t .root .slot) spare gs ys us ns hs xs ss ms acts s → Normalizes t spare r
-  packed-normalizes spare S =
-      record {
-        right = λ free h q. packed-is t hs xs ss ms acts s r Q a (normalized a free) shown (S .right (t .revision) free h q) ∙ ap (λ (b : Arena). normalized b free) shown;
-        given = packed-given t hs xs ss ms acts s r Q;
-      }
 
   pub packed-repairs : Mends (t .root .slot) gs ys us ns hs xs ss ms acts s → Repairs t r
   packed-repairs M = (packed-is t hs xs ss ms acts s r Q a (repair a) shown (M .right (t .revision)) ∙ ap repair shown, packed-given t hs xs ss ms acts s r Q)

@@ -2,7 +2,7 @@
 use mathlib.Core.Path.{_≡_}
 use mathlib.Core.Bool.{Bool, _&&_}
 use mathlib.Core.List.{List, [], map}
-use Prim.Native.Nat.{ℕ, _<_}
+use Prim.Native.Nat.{ℕ}
 use lib.Dec.{eqb}
 use lib.ListN.{length, getD}
 use lib.Ieee.{Float}
@@ -13,10 +13,8 @@ use Rattle.rules.specs.declared.model.TileTree.{TileTree}
 use Rattle.rules.specs.declared.model.RepairAction.{RepairAction}
 use Rattle.rules.specs.declared.refusal.Answer.the-variants.{Accepted, Refused}
 use Rattle.rules.specs.declared.refusal.Refusal.{Refusal}
-use Rattle.forest.specs.Lists.{All}
-use Rattle.forest.specs.Finish.{normalized}
 use Rattle.columns.specs.Columns.{nodesFrom, Lists}
-use Rattle.columns.specs.Pack.{overHead, overOf, Unpacks, firstOf, reported}
+use Rattle.columns.specs.Pack.{overHead, overOf, Unpacks, reported}
 use Rattle.repair.specs.declared.Settled.{Settled}
 use Rattle.repair.specs.declared.Repairing.{Repairing}
 
@@ -48,11 +46,6 @@ pub record Plain (hs xs : List (List ℕ)) (ss ms : List (List Float)) : Type 0 
 -- the head of an empty Hidden group with active 0
 abbrev pub isBlank : List ℕ → Bool
 isBlank h = eqb (getD h 0 0) 2 && eqb (getD h 1 0) 0 && eqb (getD h 3 0) 0 && eqb (getD h 4 0) 0
-
--- normalize_with_report: the same with any list of free slots whose first is the spare one
-pub record Normalizes (t : TileTree) (spare : ℕ) (r : Repairing) : Type 0 where
-  pub right : (free : List ℕ) → All (λ i. i < 64) free → spare ≡ firstOf free → repaired r ≡ normalized (view t) free
-  pub given : (e : Refusal) → r .answer ≡ Refused e → r .tree ≡ t
 
 -- refused, with the tree as it was given
 pub record Returns (t : TileTree) (e : Refusal) (r : Repairing) : Type 0 where

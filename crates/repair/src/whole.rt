@@ -1,4 +1,4 @@
-// The whole of a repair: the Rust's repair and normalize_with_report, and soundness by it.
+// The whole of a repair of a tree: the Rust's repair; and soundness.
 use crate::Repairing;
 use crate::Settled;
 use crate::lone;
@@ -7,25 +7,19 @@ use columns::actions;
 use columns::listing;
 use columns::pack;
 use columns::slots;
-use columns::sweep;
 use columns::unpack;
-use normalize::Counts;
-use normalize::Kept;
-use normalize::nodes;
 use rules::model::TileId;
 use rules::model::TileTree;
 use rules::refusal::Answer;
 use rules::refusal::Refusal;
 ghost use mathlib.Core.Path.{_≡_};
-ghost use mathlib.Core.Bool.{Bool};
 ghost use Prim.Native.Nat.{ℕ};
-ghost use Rattle.rules.specs.Lists.{anyOf};
-ghost use Rattle.rules.specs.Tree.{view, overSlot};
+ghost use Rattle.rules.specs.Tree.{view};
 ghost use Rattle.rules.specs.Repair as Rule;
 ghost use Rattle.rules.specs.Sound.{sound};
 ghost use Rattle.forest.specs.Still.{isStill};
 ghost use Rattle.rules.specs.declared.refusal.Answer.the-variants as Answers;
-ghost use Rattle.repair.specs.Whole.{repaired, arenaFrom, Plain, Normalizes, Returns, Packs};
+ghost use Rattle.repair.specs.Whole.{repaired, arenaFrom, Plain, Returns, Packs};
 ghost use Rattle.repair.specs.Settle.{Left};
 
 fn refused(t: TileTree, e: Refusal) -> Repairing
@@ -71,32 +65,6 @@ fn packed(
         }
         Answer::Refused(e) => refused(t, e),
     }
-}
-
-// normalize_with_report, of a tree whose lists are all there. A fresh root goes into the spare slot; 64 stands for no slot.
-pub fn normalize_with_report(t: TileTree, spare: u64) -> Repairing
-    requires { ⌜ anyOf overSlot (t .slots) ≡ Bool.false ⌝ }
-    ensures { λ r. ⌜ Normalizes t spare r ⌝ }
-{
-    let slots = t.slots;
-    slots::sized(slots);
-    let top = t.root;
-    let mut heads = [[0u64; 8]; 64];
-    let mut ids = [[0u64; 16]; 64];
-    let mut shares = [[0.0f64; 16]; 64];
-    let mut minima = [[0.0f64; 16]; 64];
-    let mut acts = [[0u64; 3]; 1300];
-    unpack::unpack(slots, &mut heads, &mut ids, &mut shares, &mut minima);
-    let s = settle::settle(
-        top.slot,
-        spare,
-        &mut heads,
-        &mut ids,
-        &mut shares,
-        &mut minima,
-        &mut acts,
-    );
-    packed(t, s, &heads, &ids, &shares, &minima, &acts)
 }
 
 // Repairs any arena. A list given too long is refused before anything else.

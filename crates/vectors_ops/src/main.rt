@@ -1,6 +1,5 @@
 // The stored runs of operations (docs/VECTORS.md), put to the library one after another and compared bit for bit.
 use libc::STDOUT_FILENO;
-use ops::Applying;
 use rules::model::TileTree;
 use wire::threes::Numbers;
 ghost use Prim.Native.Nat.{_≤_};
