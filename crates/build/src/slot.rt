@@ -72,8 +72,8 @@ fn pane_slot(x: u64) -> Slot
     ensures { λ r. ⌜ SlotIs r (pane x) ⌝ }
 {
     let panes = lists::ids::empty();
-    let children = lists::tiles::empty();
-    let reals = lists::reals::empty();
+    let children = tile_lists::tiles::empty();
+    let reals = real_lists::reals::empty();
     Slot {
         kind: Kind::Pane(x),
         active: 0,
@@ -97,8 +97,8 @@ pub fn tabs_slot(
     ensures { λ r. ⌜ SlotIs r (tabs placement active (take n (drop p (panesAt (now (b .entry)) t)))) ⌝ }
 {
     let panes = panes_of(b, t, p, n);
-    let children = lists::tiles::empty();
-    let reals = lists::reals::empty();
+    let children = tile_lists::tiles::empty();
+    let reals = real_lists::reals::empty();
     Slot {
         kind: Kind::Tabs(placement),
         active,

@@ -19,9 +19,9 @@ use Rattle.rules.specs.declared.model.TileId.{TileId}
 use Rattle.rules.specs.declared.model.Axis.{Axis}
 use Rattle.forest.specs.Lists.{free, free-set}
 use Rattle.forest.specs.Still.{noneLost}
-use Rattle.normalize.specs.Walked.{entriesOf}
-use Rattle.normalize.specs.Splits.{Loaded, Mends}
-use Rattle.normalize.specs.declared.Kids.{Kids}
+use Rattle.sifting.specs.Walked.{entriesOf}
+use Rattle.melting.specs.Splits.{Loaded, Mends}
+use Rattle.sifting.specs.declared.Kids.{Kids}
 use Rattle.calm.specs.Calm.{Look, look, taking, calmPanes, seeing, calmGroup, unmelted, calmKids, calmSplit, calmNode, calmTile, calm, calmEnd}
 use Rattle.calm.specs.Reads.{sighted, looked, Sights, Groups, Reads}
 use Rattle.calm.specs.declared.Calm.{Calm}

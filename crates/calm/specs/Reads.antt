@@ -13,7 +13,7 @@ use Rattle.calm.specs.Calm.{Look, look, calmPanes, calmGroup, calmKids, 
 use Rattle.rules.specs.Tree as Tree
 use Rattle.rules.specs.declared.model.TileId.{TileId}
 use Rattle.rules.specs.declared.model.Axis.{Axis}
-use Rattle.normalize.specs.Walked.{Even, entriesOf}
+use Rattle.sifting.specs.Walked.{Even, entriesOf}
 use Rattle.calm.specs.declared.Calm.{Calm}
 use Rattle.calm.specs.declared.nodes.Held.{Held}
 

@@ -1,6 +1,6 @@
 // A pane tile and a group, read only.
 use crate::Calm;
-use normalize::panes;
+use sifting::panes;
 ghost use mathlib.Core.Path.{_≡_};
 ghost use mathlib.Core.Bool.{false};
 ghost use mathlib.Core.List.{_∷_, []};

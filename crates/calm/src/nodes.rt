@@ -2,9 +2,9 @@
 use crate::Calm;
 use crate::leaves;
 use lists::ids as id_list;
-use lists::reals;
-use normalize::Kids;
-use normalize::rows;
+use melting::rows;
+use real_lists::reals;
+use sifting::Kids;
 use util::minima as constraints;
 use util::shares as util_shares;
 ghost use mathlib.Core.Path.{_≡_};
@@ -21,7 +21,7 @@ ghost use Rattle.rules.specs.Minima.{compactConstraints};
 ghost use Rattle.rules.specs.Repair.{melts};
 ghost use Rattle.forest.specs.Lists.{free};
 ghost use Rattle.columns.specs.Columns.{axisFrom, nodesFrom, Slim};
-ghost use Rattle.normalize.specs.Walked.{Even};
+ghost use Rattle.sifting.specs.Walked.{Even};
 ghost use Rattle.calm.specs.Calm.{look, calm, calmSplit};
 ghost use Rattle.calm.specs.Reads.{Grid, Reads, Holding};
 

@@ -1,6 +1,6 @@
 // The whole walk: from the root, and then whether an occupied slot was left out.
 use crate::nodes;
-use columns::sweep;
+use noting::sweep;
 ghost use mathlib.Core.Path.{_≡_};
 ghost use mathlib.Core.Bool.{false};
 ghost use mathlib.Core.List.{[]};

@@ -2,6 +2,5 @@ pub mod Columns
 pub mod Pack
 pub mod ColumnLaws
 pub mod OverLaws
-pub mod ActionLaws
 pub mod PackLaws
 pub mod RowLaws

@@ -3,11 +3,8 @@
 // lengths of its ids, shares and minima. Beside them the list of actions that repair writes, and its report.
 use rules::model::RepairAction;
 
-pub mod actions;
-pub mod listing;
 pub mod pack;
 pub mod slots;
-pub mod sweep;
 pub mod unpack;
 
 // One action of a repair. A struct, since an array of enums cannot be a field.

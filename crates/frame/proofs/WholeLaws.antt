@@ -14,10 +14,10 @@ use Rattle.rules.specs.declared.frame.LayoutInput.{LayoutInput}
 use Rattle.rules.specs.declared.refusal.Answer.{Answer}
 use Rattle.rules.specs.declared.refusal.Answer.the-variants.{Accepted, Refused}
 use Rattle.frames.specs.Fits.{panes-fit, bars-fit, tabs-fit, children-fit, handles-fit, focus-fits, paint-fits}
-use Rattle.layout.specs.Stream.{stream, itemsFrom, itemsIn}
+use Rattle.streaming.specs.Stream.{stream, itemsFrom, itemsIn}
 use Rattle.layout.specs.Whole.{LaysOut}
 use Rattle.layout.specs.declared.LaidOut.{LaidOut}
-use Rattle.frame.specs.Lists.{Sorted}
+use Rattle.items.specs.Lists.{Sorted}
 use Rattle.frame.specs.Frames.{itemOf, viewLayout}
 use Rattle.frame.specs.declared.Panes.{Panes}
 use Rattle.frame.specs.declared.TabBars.{TabBars}

@@ -3,7 +3,7 @@ use mathlib.Core.List.{map}
 use lib.ListN.{take}
 use Rattle.rules.specs.Frame.{Frame, Laid}
 use Rattle.rules.specs.declared.frame.FrameItemId.{FrameItemId}
-use Rattle.frame.specs.declared.Painted.{Painted}
+use Rattle.items.specs.declared.Painted.{Painted}
 use Rattle.frame.specs.declared.Layout.{Layout}
 
 abbrev pub itemOf : Painted → FrameItemId

@@ -1,4 +1,3 @@
 -- What the contracts of a frame by value say beside the rules.
-pub mod Lists
 pub mod Frames
 pub mod Unique

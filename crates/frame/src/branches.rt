@@ -1,14 +1,14 @@
 // The lists of a split's children and handles, out of the stream.
 use crate::SplitChildren;
 use crate::SplitHandles;
-use crate::decode;
-use layout::stream;
+use items::decode;
+use streaming::stream;
 ghost use mathlib.Core.Path.{_≡_};
 ghost use Prim.Native.Nat.{_≤_};
 ghost use lib.ListN.{length, take};
 ghost use Rattle.rules.specs.Frame.{gather, childOf, handleOf};
-ghost use Rattle.layout.specs.Stream.{itemsFrom};
-ghost use Rattle.frame.specs.Lists.{Sorted};
+ghost use Rattle.streaming.specs.Stream.{itemsFrom};
+ghost use Rattle.items.specs.Lists.{Sorted};
 
 // LayoutFrame::split_children
 pub fn split_children(items: &[[u64; 5]; 2304], rects: &[[f64; 4]; 2304], n: usize) -> SplitChildren

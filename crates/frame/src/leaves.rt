@@ -2,14 +2,14 @@
 use crate::Panes;
 use crate::TabBars;
 use crate::Tabs;
-use crate::decode;
-use layout::stream;
+use items::decode;
+use streaming::stream;
 ghost use mathlib.Core.Path.{_≡_};
 ghost use Prim.Native.Nat.{_≤_};
 ghost use lib.ListN.{length, take};
 ghost use Rattle.rules.specs.Frame.{gather, paneOf, barOf, tabOf};
-ghost use Rattle.layout.specs.Stream.{itemsFrom};
-ghost use Rattle.frame.specs.Lists.{Sorted};
+ghost use Rattle.streaming.specs.Stream.{itemsFrom};
+ghost use Rattle.items.specs.Lists.{Sorted};
 
 // LayoutFrame::panes
 pub fn panes(items: &[[u64; 5]; 2304], rects: &[[f64; 4]; 2304], n: usize) -> Panes

@@ -1,5 +1,5 @@
 // A frame by value: the Rust's LayoutFrame (frame.rs), its seven lists sorted out of the stream that the crate layout writes.
-use rules::frame::FrameItemId;
+use items::Painted;
 use rules::frame::PaneFrame;
 use rules::frame::SplitChildFrame;
 use rules::frame::SplitHandleFrame;
@@ -8,15 +8,9 @@ use rules::frame::TabFrame;
 use rules::refusal::Answer;
 
 pub mod branches;
-pub mod decode;
 pub mod leaves;
 pub mod orders;
 pub mod whole;
-
-// One item of the paint order. A struct, since an array of enums cannot be a field.
-pub struct Painted {
-    pub item: FrameItemId,
-}
 
 // The Rust's growing lists. The places of each suffice for every sound tree.
 pub struct Panes {

@@ -1,15 +1,15 @@
 // The focus order and the paint order, out of the stream.
 use crate::FocusOrder;
 use crate::PaintOrder;
-use crate::decode;
-use layout::stream;
+use items::decode;
+use streaming::stream;
 ghost use mathlib.Core.Path.{_≡_};
 ghost use mathlib.Core.List.{map};
 ghost use Prim.Native.Nat.{_≤_};
 ghost use lib.ListN.{length, take};
 ghost use Rattle.rules.specs.Frame.{gather, focusOf, paintOf};
-ghost use Rattle.layout.specs.Stream.{itemsFrom};
-ghost use Rattle.frame.specs.Lists.{Sorted};
+ghost use Rattle.streaming.specs.Stream.{itemsFrom};
+ghost use Rattle.items.specs.Lists.{Sorted};
 ghost use Rattle.frame.specs.Frames.{itemOf};
 
 // LayoutFrame::focus_order

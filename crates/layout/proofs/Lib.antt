@@ -1,4 +1,3 @@
-pub mod Laws
 pub mod TileLaws
 pub mod ReadLaws
 pub mod WholeLaws

@@ -15,7 +15,7 @@ use Rattle.rules.specs.declared.model.Axis.the-variants.{Horizontal, Vertical}
 use Rattle.rules.specs.declared.model.TabBarPlacement.{TabBarPlacement}
 use Rattle.rules.specs.declared.model.TabBarPlacement.the-variants.{Hidden, Top, Bottom, Left, Right}
 use Rattle.columns.specs.Columns.{barFrom, axisFrom}
-use Rattle.layout.specs.Stream.{flagCode, flagFrom, codeOf, sidesOf, itemFrom, itemsFrom, Stream, stream, pushBy, pushAll}
+use Rattle.streaming.specs.Stream.{flagCode, flagFrom, codeOf, sidesOf, itemFrom, itemsFrom, Stream, stream, pushBy, pushAll}
 
 -- ---- an item comes back
 

@@ -15,9 +15,9 @@ use Rattle.rules.specs.declared.frame.Rect.{Rect}
 use Rattle.rules.specs.declared.frame.LayoutInput.{LayoutInput}
 use Rattle.columns.specs.Columns.{barFrom, axisFrom, nodeBy, nodeFrom, nodesFrom}
 use Rattle.columns.specs.ColumnLaws.{nodes-at, split-of}
-use Rattle.layout.specs.Stream.{Stream, pushItem, pushAll}
+use Rattle.streaming.specs.Stream.{Stream, pushItem, pushAll}
 use Rattle.layout.specs.Grid.{Grid}
-use Rattle.layout.proofs.Laws.{push-none, push-one, push-cons}
+use Rattle.streaming.proofs.Laws.{push-none, push-one, push-cons}
 
 past-end : {A : Type 0} (xs : List A) (i : ℕ) (d : A) → length xs ≤ i → getD xs i d ≡ d
 past-end [] i d h = refl

@@ -16,7 +16,7 @@ use Rattle.rules.specs.declared.refusal.Refusal.{Refusal}
 use Rattle.rules.specs.declared.refusal.Refusal.the-variants.{NotSound, BadInput}
 use Rattle.repair.specs.Whole.{arenaFrom, Plain}
 use Rattle.frames.specs.Fits.{items-fit}
-use Rattle.layout.specs.Stream.{codeOf, sidesOf, stream, itemsFrom, itemsIn, pushAll}
+use Rattle.streaming.specs.Stream.{codeOf, sidesOf, stream, itemsFrom, itemsIn, pushAll}
 use Rattle.layout.specs.Grid.{Grid}
 use Rattle.layout.specs.Whole.{LaysOut}
 use Rattle.layout.specs.declared.LaidOut.{LaidOut}

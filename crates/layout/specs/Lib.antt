@@ -1,5 +1,4 @@
 -- What the layout's contracts say beside the rules.
-pub mod Stream
 pub mod Grid
 pub mod Whole
 pub mod Unique

@@ -9,7 +9,7 @@ use Rattle.rules.specs.Frame.{Laid}
 use Rattle.rules.specs.declared.frame.LayoutInput.{LayoutInput}
 use Rattle.rules.specs.declared.refusal.Answer.{Answer}
 use Rattle.rules.specs.declared.refusal.Answer.the-variants.{Accepted, Refused}
-use Rattle.layout.specs.Stream.{codeOf, sidesOf, stream, itemsIn}
+use Rattle.streaming.specs.Stream.{codeOf, sidesOf, stream, itemsIn}
 use Rattle.layout.specs.Whole.{LaysOut}
 use Rattle.layout.specs.declared.LaidOut.{LaidOut}
 

@@ -9,7 +9,7 @@ use Rattle.rules.specs.Frame.{Laid, frameOf, layoutItems, plusInput, layout}
 use Rattle.rules.specs.declared.frame.LayoutInput.{LayoutInput}
 use Rattle.rules.specs.declared.refusal.Answer.the-variants.{Accepted, Refused}
 use Rattle.rules.specs.declared.refusal.Refusal.{Refusal}
-use Rattle.layout.specs.Stream.{codeOf, sidesOf, stream, itemsIn}
+use Rattle.streaming.specs.Stream.{codeOf, sidesOf, stream, itemsIn}
 use Rattle.layout.specs.declared.LaidOut.{LaidOut}
 
 -- the answer and what stands in the arrays, as the rule has it

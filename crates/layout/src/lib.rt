@@ -3,10 +3,6 @@
 // layout_tile makes them. The lists of a frame are the items of a kind, in that order.
 use rules::refusal::Answer;
 
-pub mod input;
-pub mod splits;
-pub mod stream;
-pub mod tabs;
 pub mod tiles;
 pub mod whole;
 

@@ -1,11 +1,11 @@
 // layout_tile and layout_split: a tile's layout calls a split's, which calls back with one level less to go. The Rust's `visiting` is the depth:
 // a sound tree is never deeper than 64.
-use crate::splits;
-use crate::stream;
-use crate::tabs;
+use placing::splits;
 use rules::frame::LayoutInput;
 use rules::frame::Rect;
 use rules::model::Axis;
+use streaming::stream;
+use streaming::tabs;
 ghost use mathlib.Core.Path.{_≡_};
 ghost use mathlib.Core.List.{[], map};
 ghost use Prim.Native.Nat.{_≤_, _<_};
@@ -13,7 +13,7 @@ ghost use lib.ListN.{getD, take};
 ghost use Rattle.rules.specs.Tree.{tile};
 ghost use Rattle.rules.specs.Frame as Rule;
 ghost use Rattle.columns.specs.Columns.{nodesFrom, axisFrom};
-ghost use Rattle.layout.specs.Stream as Streams;
+ghost use Rattle.streaming.specs.Stream as Streams;
 ghost use Rattle.layout.specs.Grid.{Grid};
 
 // A pane that stands by itself.
@@ -131,7 +131,7 @@ fn layout_split(
     let mut j = 0usize;
     while j < count {
         let child = children[j];
-        let length = lists::reals::get(lengths, j, 0.0);
+        let length = real_lists::reals::get(lengths, j, 0.0);
         let room = splits::along_rect(axis, rect, at, length);
         m = stream::push_child(items, rects, m, id, child, j, room);
         m = layout_tile(

@@ -1,7 +1,7 @@
 // The whole of a layout over lent arrays: the Rust's layout.
 use crate::LaidOut;
-use crate::input;
 use crate::tiles;
+use placing::input;
 use rules::frame::LayoutInput;
 use rules::model::TileTree;
 use rules::refusal::Answer;
@@ -14,7 +14,7 @@ ghost use Rattle.rules.specs.Sound.{sound};
 ghost use Rattle.rules.specs.Frame.{layoutItems};
 ghost use Rattle.rules.specs.declared.refusal.Answer.the-variants as Answers;
 ghost use Rattle.repair.specs.Whole.{arenaFrom, Plain};
-ghost use Rattle.layout.specs.Stream as Streams;
+ghost use Rattle.streaming.specs.Stream as Streams;
 ghost use Rattle.layout.specs.Whole.{LaysOut};
 
 // The length of the arrays that are lent, which only one by value tells.

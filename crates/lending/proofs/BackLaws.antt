@@ -15,10 +15,10 @@ use Rattle.rules.specs.declared.model.TabBarPlacement.the-variants.{Hidden, Top
 use Rattle.columns.specs.Columns.{barFrom, axisFrom, nodeBy, nodeFrom, nodesFrom}
 use Rattle.columns.specs.Pack.{overKind, overOf}
 use Rattle.repair.specs.Whole.{arenaFrom}
-use Rattle.lending.specs.Lent.{lot, codeOk, codesOk}
+use Rattle.coding.specs.Lent.{lot, codeOk, codesOk}
 use Rattle.lending.specs.Parts.{Holds}
 use Rattle.lending.specs.Back.{fittedBy, fitted}
-use Rattle.lending.proofs.CodeLaws.{bar-ok, axis-ok}
+use Rattle.coding.proofs.CodeLaws.{bar-ok, axis-ok}
 
 -- ---- modes, by what the branches of the code know
 

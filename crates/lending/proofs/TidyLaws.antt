@@ -11,7 +11,7 @@ use Rattle.rules.specs.Tree.{tile}
 use Rattle.columns.specs.Columns.{nodeBy, nodeFrom, nodesFrom}
 use Rattle.columns.specs.Pack.{overHead, overKind, overOf}
 use Rattle.repair.specs.Whole.{Plain}
-use Rattle.lending.specs.Lent.{lot, lent, tidiedBy, tidied}
+use Rattle.coding.specs.Lent.{lot, lent, tidiedBy, tidied}
 
 pub tidied-split : (k : ℕ) (h : List ℕ) → (k ≡ 0 → ⊥) → (k ≡ 1 → ⊥) → (k ≡ 2 → ⊥) → h ≡ tidiedBy k h
 tidied-split zero h a b c = absurd (a refl)

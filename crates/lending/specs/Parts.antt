@@ -10,7 +10,7 @@ use Rattle.rules.specs.Refusals.{answerOf}
 use Rattle.rules.specs.declared.model.RepairAction.{RepairAction}
 use Rattle.rules.specs.declared.refusal.Answer.{Answer}
 use Rattle.columns.specs.Columns.{codeOf}
-use Rattle.lending.specs.Lent.{Lot, lent, lotOk, outOf}
+use Rattle.coding.specs.Lent.{Lot, lent, lotOk, outOf}
 
 -- an answer told: the number returned, and all of `out`
 pub record Tells (a : Answer) (c d : ℕ) (out : List ℕ) (r : ℕ) : Type 0 where

@@ -1,5 +1,5 @@
 // A repair's actions, into the list that is lent.
-use columns::actions;
+use noting::actions;
 ghost use mathlib.Core.List.{List};
 ghost use Prim.Native.Nat.{_≤_};
 ghost use Rattle.rules.specs.declared.model.RepairAction.{RepairAction};

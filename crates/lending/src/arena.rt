@@ -1,5 +1,5 @@
 // The lengths of lent columns.
-use crate::codes;
+use coding::codes;
 ghost use mathlib.Core.Path.{_≡_};
 ghost use lib.ListN.{length};
 

@@ -1,11 +1,11 @@
 // Columns that a call made, written to those that are lent, in codes that every call takes.
-use crate::codes;
+use coding::codes;
 ghost use mathlib.Core.Path.{_≡_};
 ghost use mathlib.Core.List.{map};
 ghost use Rattle.rules.specs.Tree.{barCode, axisCode};
 ghost use Rattle.columns.specs.Columns.{barFrom, axisFrom};
 ghost use Rattle.repair.specs.Whole.{arenaFrom};
-ghost use Rattle.lending.specs.Lent.{lot};
+ghost use Rattle.coding.specs.Lent.{lot};
 ghost use Rattle.lending.specs.Parts.{Holds, Keeps};
 ghost use Rattle.lending.specs.Back.{fitted};
 

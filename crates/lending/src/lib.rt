@@ -3,8 +3,6 @@
 pub mod actions;
 pub mod arena;
 pub mod back;
-pub mod codes;
-pub mod operation;
 pub mod solving;
 pub mod tidy;
 pub mod told;

@@ -1,7 +1,7 @@
 // A solver's lists from what is lent, and back.
 use rules::model::Reals;
 ghost use mathlib.Core.Path.{_≡_};
-ghost use Rattle.lending.specs.Lent.{realsOf};
+ghost use Rattle.coding.specs.Lent.{realsOf};
 ghost use Rattle.lending.specs.Parts.{Fills};
 
 pub fn reals_of(numbers: &[f64; 16], count: u64) -> Reals

@@ -1,8 +1,8 @@
 // Heads as soundness and layout read them: a lent head may hold any number in a place that its kind doesn't use, and so a length that is none.
-use crate::codes;
+use coding::codes;
 ghost use mathlib.Core.Path.{_≡_};
 ghost use mathlib.Core.List.{map};
-ghost use Rattle.lending.specs.Lent.{tidied};
+ghost use Rattle.coding.specs.Lent.{tidied};
 
 fn tidy_head(h: [u64; 8]) -> [u64; 8]
     ensures { λ r. ⌜ r ≡ tidied h ⌝ }

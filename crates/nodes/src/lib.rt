@@ -7,9 +7,7 @@ use rules::model::TileId;
 use rules::refusal::Refusal;
 
 pub mod find;
-pub mod groups;
 pub mod slots;
-pub mod splits;
 pub mod take;
 pub mod targets;
 

@@ -1,3 +1,1 @@
-pub mod LeafLaws
-pub mod SplitLaws
 pub mod WalkLaws

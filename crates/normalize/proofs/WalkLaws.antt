@@ -24,16 +24,16 @@ use Rattle.forest.specs.Codec.{Least, start-least}
 use Rattle.forest.specs.Grow.{Good, tile-keeps, claimed}
 use Rattle.forest.specs.Again.{tile-by}
 use Rattle.forest.specs.Wide.{Swollen, Bulging, Before, before-start, before-more, kids-bulge, kid-bulge, long-bulge, split-swells}
-use Rattle.normalize.specs.Work.{Cols, cols, Sized, Shows}
+use Rattle.sifting.specs.Work.{Cols, cols, Sized, Shows}
 use Rattle.columns.specs.Columns.{nodeFrom, axisFrom}
-use Rattle.normalize.specs.Walked.{keptAs, reserve, Answers, Walked, Even, entriesOf, Placed}
-use Rattle.normalize.specs.Steps.{Dropped}
-use Rattle.normalize.specs.Splits.{Loaded, Mends, BadNoted, Closed}
+use Rattle.sifting.specs.Walked.{keptAs, reserve, Answers, Walked, Even, entriesOf, Placed}
+use Rattle.sifting.specs.Steps.{Dropped}
+use Rattle.melting.specs.Splits.{Loaded, Mends, BadNoted, Closed}
 use Rattle.normalize.specs.Opens.{Opens, isWide}
-use Rattle.normalize.specs.declared.Counts.{Counts}
-use Rattle.normalize.specs.declared.Kept.{Kept}
-use Rattle.normalize.specs.declared.Kept.the-variants.{At, Gone, Wide}
-use Rattle.normalize.specs.declared.Kids.{Kids}
+use Rattle.sifting.specs.declared.Counts.{Counts}
+use Rattle.sifting.specs.declared.Kept.{Kept}
+use Rattle.sifting.specs.declared.Kept.the-variants.{At, Gone, Wide}
+use Rattle.sifting.specs.declared.Kids.{Kids}
 use Rattle.columns.specs.ColumnLaws.{nodes-long, nodes-at, split-of}
 
 -- ---- what the arrays show is as long as it should be

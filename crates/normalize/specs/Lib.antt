@@ -1,5 +1,1 @@
-pub mod Work
-pub mod Walked
-pub mod Steps
-pub mod Splits
 pub mod Opens

@@ -10,13 +10,13 @@ use Rattle.rules.specs.Repair.{Work, run, claim, kidsFrom, splitDone, normalize
 use Rattle.rules.specs.declared.model.Reals.{Reals}
 use Rattle.forest.specs.Lists.{All}
 use Rattle.forest.specs.Codec.{Least}
-use Rattle.normalize.specs.Work.{Cols, cols, Sized, Shows}
+use Rattle.sifting.specs.Work.{Cols, cols, Sized, Shows}
 use Rattle.columns.specs.Columns.{axisFrom}
-use Rattle.normalize.specs.Walked.{Even, entriesOf}
-use Rattle.normalize.specs.declared.Counts.{Counts}
-use Rattle.normalize.specs.declared.Kept.{Kept}
-use Rattle.normalize.specs.declared.Kept.the-variants.{At, Gone, Wide}
-use Rattle.normalize.specs.declared.Kids.{Kids}
+use Rattle.sifting.specs.Walked.{Even, entriesOf}
+use Rattle.sifting.specs.declared.Counts.{Counts}
+use Rattle.sifting.specs.declared.Kept.{Kept}
+use Rattle.sifting.specs.declared.Kept.the-variants.{At, Gone, Wide}
+use Rattle.sifting.specs.declared.Kids.{Kids}
 use Rattle.normalize.specs.declared.Opened.{Opened}
 
 -- ---- a split opened: its slot claimed, its lists read and mended, and the bad ones noted. From the arrays C to the arrays D

@@ -1,14 +1,14 @@
 // normalize_node and normalize_split: a tile's repair calls a split's repair, which calls back. Slots that are not claimed grow fewer.
-use crate::Counts;
-use crate::Kept;
-use crate::Kids;
 use crate::Opened;
-use crate::Walk;
-use crate::leaves;
-use crate::rows;
 use crate::splits;
 use lists::ids as id_list;
-use lists::reals;
+use melting::rows;
+use real_lists::reals;
+use sifting::Counts;
+use sifting::Kept;
+use sifting::Kids;
+use sifting::Walk;
+use sifting::leaves;
 ghost use mathlib.Core.List.{[]};
 ghost use mathlib.Core.Path.{_≡_};
 ghost use mathlib.Core.Bool.{Bool};
@@ -16,9 +16,9 @@ ghost use Prim.Native.Nat.{_+_, _*_, _≤_, _<_};
 ghost use lib.ListN.{length, getD};
 ghost use Rattle.forest.specs.Lists.{free};
 ghost use Rattle.rules.specs.Tree as Tree;
-ghost use Rattle.normalize.specs.Work.{cols, Sized};
+ghost use Rattle.sifting.specs.Work.{cols, Sized};
 ghost use Rattle.columns.specs.Columns.{Slim};
-ghost use Rattle.normalize.specs.Walked.{Walked, Even, entriesOf};
+ghost use Rattle.sifting.specs.Walked.{Walked, Even, entriesOf};
 ghost use Rattle.normalize.specs.Opens.{OpensIn, isWide};
 
 // Whether a step answered that a list is too wide.

@@ -1,14 +1,14 @@
 // The parts of normalize_split that call nothing back: bad lists noted, a child that came back placed, and the split stored again.
-use crate::Counts;
-use crate::Kept;
-use crate::Kids;
-use crate::Placing;
-use crate::Walk;
-use crate::rows;
-use columns::actions;
 use lists::ids as id_list;
+use melting::Placing;
+use melting::rows;
+use noting::actions;
 use rules::model::Ids;
 use rules::model::Reals;
+use sifting::Counts;
+use sifting::Kept;
+use sifting::Kids;
+use sifting::Walk;
 use util::minima as constraints;
 use util::shares as util_shares;
 ghost use mathlib.Core.List.{[]};
@@ -17,8 +17,8 @@ ghost use Prim.Native.Nat.{ℕ, _+_, _≤_, _<_};
 ghost use lib.ListN.{length, getD, set};
 ghost use Rattle.rules.specs.Repair.{entry};
 ghost use Rattle.columns.specs.Columns.{Slim};
-ghost use Rattle.normalize.specs.Walked.{Even};
-ghost use Rattle.normalize.specs.Splits.{BadNoted, PlacesIn, ClosesIn, emptyHead, Stored};
+ghost use Rattle.sifting.specs.Walked.{Even};
+ghost use Rattle.melting.specs.Splits.{BadNoted, PlacesIn, ClosesIn, emptyHead, Stored};
 
 // The bad lists of a split: k as they were given, l as they were mended.
 pub fn split_noted(acts: &mut [[u64; 3]; 1300], n: usize, id: u64, k: Kids, l: Kids) -> usize

@@ -1,4 +1,2 @@
-pub mod FinishLaws
-pub mod NearLaws
 pub mod OpLaws
 pub mod WholeLaws

@@ -30,10 +30,10 @@ use Rattle.lists.specs.Find.{position-found}
 use Rattle.nodes.specs.Find.{isSplit, scanPane, Stands, scan-stands}
 use Rattle.nodes.specs.Parts.{isGroup, reorderedIn, Spared}
 use Rattle.nodes.specs.declared.Spares.{Spares}
-use Rattle.ops.specs.Near.{Alike, alike-self, alike-removed}
-use Rattle.ops.specs.Steps.{Fit, Makes, Steps, Taken, Fits, reorderAs}
-use Rattle.ops.specs.declared.Stepped.{Stepped}
-use Rattle.ops.proofs.FinishLaws.{step-goes, step-only, step-wide, spare-is, wide-set}
+use Rattle.docking.specs.Near.{Alike, alike-self, alike-removed}
+use Rattle.docking.specs.Steps.{Fit, Makes, Steps, Taken, Fits, reorderAs}
+use Rattle.docking.specs.declared.Stepped.{Stepped}
+use Rattle.docking.proofs.FinishLaws.{step-goes, step-only, step-wide, spare-is, wide-set}
 
 -- the same step by another name
 pub steps-like : (a : Arena) (s u : Step) (r : Stepped) (ns : List Node) → s ≡ u → Steps a u r ns → Steps a s r ns

@@ -22,11 +22,11 @@ use Rattle.repair.specs.Whole.{arenaFrom, Plain}
 use Rattle.repair.proofs.StillLaws.{plain-over, plain-long}
 use Rattle.repair.proofs.SoundLaws.{sound-whole}
 use Rattle.nodes.specs.Find.{find-scan, parent-scan}
-use Rattle.ops.specs.Trees.{sound-standing}
-use Rattle.ops.specs.Steps.{Fit, Ready, Makes, applied, Comes}
-use Rattle.ops.specs.declared.Applying.{Applying}
-use Rattle.ops.specs.declared.AppliedIn.{AppliedIn}
-use Rattle.ops.proofs.FinishLaws.{even-plain, plain-even, comes-refused, comes-same}
+use Rattle.docking.specs.Trees.{sound-standing}
+use Rattle.docking.specs.Steps.{Fit, Ready, Makes, applied, Comes}
+use Rattle.docking.specs.declared.Applying.{Applying}
+use Rattle.docking.specs.declared.AppliedIn.{AppliedIn}
+use Rattle.docking.proofs.FinishLaws.{even-plain, plain-even, comes-refused, comes-same}
 
 -- ---- a sound arena
 

@@ -25,7 +25,7 @@ use Rattle.rules.specs.declared.operation.TileOp.the-variants.{ActivatePane, Cl
 use Rattle.lists.specs.Find.{position-found}
 use Rattle.forest.specs.Stays.{Shown, panes-full}
 use Rattle.nodes.specs.Find.{OneTree}
-use Rattle.ops.specs.Near.{alike-self, alike-kids}
+use Rattle.docking.specs.Near.{alike-self, alike-kids}
 use Rattle.ops.specs.Spots.{insert-has, insert-keeps, insert-from, remove-from, remove-keeps, place-has, set-passes, set-came, set-like, At}
 use Rattle.ops.specs.Removal.{In, removed-keeps, removed-from, removed-alike, removed-gone}
 use Rattle.ops.specs.Graft.{of, carry-like, Grafted, Ground}

@@ -22,7 +22,7 @@ use Rattle.lists.specs.Find.{position-found}
 use Rattle.forest.specs.Lists.{never}
 use Rattle.forest.specs.Stays.{Shown, kids-full, full-inside}
 use Rattle.nodes.specs.Find.{isSplit}
-use Rattle.ops.specs.Near.{Alike, alike-kids, alike-set, taken-empty}
+use Rattle.docking.specs.Near.{Alike, alike-kids, alike-set, taken-empty}
 use Rattle.ops.specs.Spots.{insert-has, insert-keeps, place-has, set-like, parent-has}
 
 -- ---- what is reached in one arena is reached in another, if its root is and each of its steps can be made there

@@ -18,7 +18,7 @@ use Rattle.rules.specs.Insert.{Draft, draft, Beside, hasAxis, newSplit, replace
 use Rattle.rules.specs.Operations.{Step, refuse, unchanged, changed, taken, putNear}
 use Rattle.rules.specs.declared.model.TileId.{TileId}
 use Rattle.nodes.specs.Find.{isSplit}
-use Rattle.ops.specs.Near.{taken-empty, near-absent, near-loose, near-in, near-root, near-under}
+use Rattle.docking.specs.Near.{taken-empty, near-absent, near-loose, near-in, near-root, near-under}
 use Rattle.ops.specs.Spots.{set-has, set-keeps, set-like, taken-inside, taken-apart}
 use Rattle.ops.specs.Graft.{carry, of, step-to, new-target, new-own, new-panes, replaced-kids, replaced-panes, Grafted, Ground, first, x-empty, grafted, first-long, first-own, first-other, first-kids, kids, placed, s-full, s-in, s-not, s-split, inside-grafted}
 

@@ -1,7 +1,4 @@
 -- What the operations promise, and laws of the rules that their proofs cite.
-pub mod Trees
-pub mod Near
-pub mod Steps
 pub mod Theorems
 pub mod Spots
 pub mod Removal

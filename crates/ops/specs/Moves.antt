@@ -27,7 +27,7 @@ use Rattle.rules.specs.declared.operation.TileOp.the-variants.{ActivatePane, Cl
 use Rattle.rules.specs.declared.refusal.Refusal.{Refusal}
 use Rattle.forest.specs.Stays.{Shown, full-inside}
 use Rattle.nodes.specs.Find.{OneTree, isSplit}
-use Rattle.ops.specs.Near.{alike-kids}
+use Rattle.docking.specs.Near.{alike-kids}
 use Rattle.ops.specs.Spots.{insert-has, insert-keeps, insert-from, set-passes, set-came, set-like, At, located-stands}
 use Rattle.ops.specs.Removal.{In, at-in, removed-keeps, removed-from, removed-long, removed-blank, removed-alike}
 use Rattle.ops.specs.Graft.{of, carry-like, Grafted, Ground}

@@ -27,7 +27,7 @@ use Rattle.forest.specs.Lists.{All, all-map, all-append, all-member, member-cas
 use Rattle.forest.specs.Settled.{slots}
 use Rattle.forest.specs.Stays.{Shown, panes-full, kids-full, full-inside, panes-reached}
 use Rattle.nodes.specs.Find.{OneTree, along-in}
-use Rattle.ops.specs.Trees.{sound-standing}
+use Rattle.docking.specs.Trees.{sound-standing}
 use Rattle.ops.specs.Theorems.{Shape, inner-shape}
 use Rattle.ops.specs.Removal.{In}
 use Rattle.ops.specs.Graft.{of}

@@ -16,7 +16,7 @@ use Rattle.forest.specs.Lists.{Distinct, never, distinct-left, distinct-right}
 use Rattle.forest.specs.Settled.{slots}
 use Rattle.forest.specs.Stays.{panes-full, full-inside}
 use Rattle.nodes.specs.Find.{OneTree, pane-once}
-use Rattle.ops.specs.Near.{Alike, alike-removed}
+use Rattle.docking.specs.Near.{Alike, alike-removed}
 use Rattle.ops.specs.Spots.{remove-from, remove-keeps, remove-gone, place-has, set-passes, set-came, At, at-stands}
 
 -- some slot shows the pane

@@ -36,8 +36,8 @@ use Rattle.rules.specs.declared.refusal.Refusal.the-variants.{ArenaFull, TooWid
 use Rattle.forest.specs.Lists.{All}
 use Rattle.forest.specs.Settled.{settled}
 use Rattle.forest.specs.Soundness.{Finished, finished-sound, finished-reached, slots-inside}
-use Rattle.ops.specs.Steps.{applied}
-use Rattle.ops.specs.declared.Applying.{Applying}
+use Rattle.docking.specs.Steps.{applied}
+use Rattle.docking.specs.declared.Applying.{Applying}
 
 -- ---- a change keeps the number of slots, and its free slots are slots
 

@@ -1,5 +1,5 @@
 // What follows an operation: refusals 11 and 3 after repair, the revision, and the repair itself (the Rust's apply, 225 to 238).
-use crate::AppliedIn;
+use docking::AppliedIn;
 use repair::settle;
 use rules::refusal::Answer;
 use rules::refusal::Refusal;
@@ -11,7 +11,7 @@ ghost use Rattle.rules.specs.Operations as Rule;
 ghost use Rattle.rules.specs.declared.refusal.Answer.the-variants as Answers;
 ghost use Rattle.columns.specs.Columns.{nodesFrom};
 ghost use Rattle.columns.specs.Pack.{Even};
-ghost use Rattle.ops.specs.Steps.{Makes, Comes};
+ghost use Rattle.docking.specs.Steps.{Makes, Comes};
 
 pub fn refused(root: u64, revision: u64, e: Refusal) -> AppliedIn
     ensures { λ r. ⌜ (r .answer ≡ Answers.Refused e) × (r .changed ≡ false) ⌝ }

@@ -1,22 +1,22 @@
 // The operations but reorder_tab: the Rust's activate_pane, close_pane, split_pane, move_pane and insert_tile_at_target.
-use crate::Stepped;
-use crate::near;
-use columns::sweep;
+use docking::Stepped;
+use docking::near;
 use nodes::Beside;
 use nodes::Checked;
 use nodes::PaneLocation;
 use nodes::Spares;
 use nodes::find;
-use nodes::groups;
 use nodes::slots;
 use nodes::take;
 use nodes::targets;
+use noting::sweep;
 use rules::model::Axis;
 use rules::model::Placement;
 use rules::model::TileId;
 use rules::operation::DockTarget;
 use rules::operation::TabIndex;
 use rules::refusal::Refusal;
+use tabbing::groups;
 use util::shares;
 ghost use Rattle.rules.specs.Tree.{Arena, nodeAt, setNode};
 ghost use Rattle.rules.specs.Target.{inTabs};
@@ -26,7 +26,7 @@ ghost use Rattle.rules.specs.Tree as Tree;
 ghost use Rattle.columns.specs.Columns.{nodesFrom};
 ghost use Rattle.columns.specs.Pack.{Even};
 ghost use Rattle.nodes.specs.Parts.{besideOf};
-ghost use Rattle.ops.specs.Steps.{Does, Ready, Puts, Taken};
+ghost use Rattle.docking.specs.Steps.{Does, Ready, Puts, Taken};
 
 // activate_pane, in a group.
 fn activate_in(

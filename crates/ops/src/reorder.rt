@@ -1,14 +1,14 @@
 // A pane moved within its group: the Rust's reorder_tab.
-use crate::Stepped;
-use columns::sweep;
+use docking::Stepped;
 use lists::Place;
 use lists::ids;
-use nodes::groups;
 use nodes::slots;
+use noting::sweep;
 use rules::model::Kind;
 use rules::model::Slot;
 use rules::model::TileId;
 use rules::refusal::Refusal;
+use tabbing::groups;
 ghost use mathlib.Core.Path.{_≡_};
 ghost use mathlib.Core.Bool.{false};
 ghost use mathlib.Core.Option.{some};
@@ -18,7 +18,7 @@ ghost use Rattle.rules.specs.Tree.{Arena, viewSlot, overSlot, panesOf};
 ghost use Rattle.rules.specs.Operations as Rule;
 ghost use Rattle.columns.specs.Pack.{Even};
 ghost use Rattle.nodes.specs.Parts.{isGroup};
-ghost use Rattle.ops.specs.Steps.{Does, reorderAs};
+ghost use Rattle.docking.specs.Steps.{Does, reorderAs};
 
 // reorder_tab, where the pane stands in the group: the index is clamped after the removal, and the active pane stays the same pane.
 fn reorder_from(

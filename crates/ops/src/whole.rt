@@ -1,13 +1,13 @@
 // The public call: the Rust's apply and apply_inner.
-use crate::AppliedIn;
-use crate::Applying;
-use crate::Stepped;
 use crate::finish;
 use crate::operations;
 use crate::reorder;
 use columns::pack;
 use columns::slots;
 use columns::unpack;
+use docking::AppliedIn;
+use docking::Applying;
+use docking::Stepped;
 use repair::lone;
 use repair::whole;
 use rules::model::TileId;
@@ -23,7 +23,7 @@ ghost use Rattle.rules.specs.Operations as Rule;
 ghost use Rattle.rules.specs.declared.refusal.Refusal.{Refusal};
 ghost use Rattle.rules.specs.declared.refusal.Answer.the-variants as Answers;
 ghost use Rattle.repair.specs.Whole.{arenaFrom, Plain};
-ghost use Rattle.ops.specs.Steps.{applied, Does, Ready, Comes};
+ghost use Rattle.docking.specs.Steps.{applied, Does, Ready, Comes};
 
 // apply_inner
 fn apply_inner(

@@ -17,7 +17,7 @@ use Rattle.forest.specs.Lists.{never}
 use Rattle.forest.specs.Settled.{slots}
 use Rattle.forest.specs.Stays.{panes-full, full-inside}
 use Rattle.nodes.specs.Find.{OneTree, pane-once}
-use Rattle.ops.specs.Trees.{reading-like, sound-standing}
+use Rattle.docking.specs.Trees.{reading-like, sound-standing}
 use Rattle.ops.specs.Spots.{set-passes}
 use Rattle.promises.specs.Stands.{Found}
 

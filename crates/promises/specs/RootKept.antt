@@ -25,7 +25,7 @@ use Rattle.forest.specs.Lists.{Distinct, never}
 use Rattle.forest.specs.Grow.{tile-keeps}
 use Rattle.forest.specs.Stays.{Shown, panes-reached}
 use Rattle.nodes.specs.Find.{OneTree}
-use Rattle.ops.specs.Trees.{sound-standing}
+use Rattle.docking.specs.Trees.{sound-standing}
 use Rattle.ops.specs.Theorems.{Shape, inner-shape}
 use Rattle.ops.specs.Removal.{In}
 use Rattle.ops.specs.Graft.{of}

@@ -13,8 +13,8 @@ use Rattle.rules.specs.declared.refusal.Refusal.{Refusal}
 use Rattle.columns.specs.Pack.{reported}
 use Rattle.repair.specs.Whole.{repaired, Repairs}
 use Rattle.repair.specs.declared.Repairing.{Repairing}
-use Rattle.ops.specs.Steps.{applied}
-use Rattle.ops.specs.declared.Applying.{Applying}
+use Rattle.docking.specs.Steps.{applied}
+use Rattle.docking.specs.declared.Applying.{Applying}
 
 -- what is read off two answers is the rule's value, so it is the same
 pub one-value : {A B : Type 0} (read : A → B) (rule : B) (r s : A) → read r ≡ rule → read s ≡ rule → read r ≡ read s

@@ -20,10 +20,10 @@ use Rattle.rules.specs.declared.refusal.Refusal.the-variants.{ArenaFull, TooWid
 use Rattle.forest.specs.Lists.{All}
 use Rattle.forest.specs.Soundness.{slots-inside}
 use Rattle.forest.specs.Finish.{finishedAs, normalized, repair-over, repair-whole, normalized-kept, normalized-wide, normalized-full, normalized-fresh}
-use Rattle.normalize.specs.Work.{Cols, Sized, Shows}
-use Rattle.normalize.specs.Walked.{Walked}
-use Rattle.normalize.specs.declared.Kept.{Kept}
-use Rattle.normalize.specs.declared.Kept.the-variants.{At, Gone, Wide}
+use Rattle.sifting.specs.Work.{Cols, Sized, Shows}
+use Rattle.sifting.specs.Walked.{Walked}
+use Rattle.sifting.specs.declared.Kept.{Kept}
+use Rattle.sifting.specs.declared.Kept.the-variants.{At, Gone, Wide}
 use Rattle.columns.specs.Columns.{nodesFrom, Slim, codeOf, Lists}
 use Rattle.columns.specs.ColumnLaws.{nodes-head, slim-set}
 use Rattle.columns.specs.Pack.{overHead, overKind, overOf, firstOf}

@@ -12,8 +12,8 @@ use Rattle.rules.specs.Lists.{anyOf}
 use Rattle.rules.specs.Tree.{Node, tile, emptyGroup, wideNode, viewSlot}
 use Rattle.rules.specs.Repair.{begin}
 use Rattle.rules.specs.declared.model.Slot.{Slot}
-use Rattle.normalize.specs.Work.{Cols, cols, nodesIn, Sized, Shows}
-use Rattle.normalize.specs.declared.Counts.{Counts}
+use Rattle.sifting.specs.Work.{Cols, cols, nodesIn, Sized, Shows}
+use Rattle.sifting.specs.declared.Counts.{Counts}
 use Rattle.columns.specs.Columns.{nodeBy, nodesFrom, Slim}
 use Rattle.columns.specs.Pack.{headOf, idsOf, sharesOf, minimaOf, Unpacks}
 use Rattle.columns.specs.PackLaws.{or-left, or-right, unpacked}

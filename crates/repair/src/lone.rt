@@ -1,5 +1,5 @@
 // The one sound tree that repair would alter: its only occupied slot is the root, an empty Hidden group with active 0.
-use columns::sweep;
+use noting::sweep;
 ghost use mathlib.Core.Path.{_≡_};
 ghost use mathlib.Core.List.{[]};
 ghost use Prim.Native.Nat.{ℕ, _<_};

@@ -1,12 +1,12 @@
 // Repair of an arena's columns in place. A refused one may leave them half done: who must have them as they were keeps a copy.
 use crate::Settled;
-use columns::sweep;
 use columns::unpack;
-use normalize::Counts;
-use normalize::Kept;
 use normalize::nodes;
+use noting::sweep;
 use rules::refusal::Answer;
 use rules::refusal::Refusal;
+use sifting::Counts;
+use sifting::Kept;
 ghost use mathlib.Core.Path.{_≡_};
 ghost use mathlib.Core.Bool.{Bool};
 ghost use Prim.Native.Nat.{_+_, _≤_};

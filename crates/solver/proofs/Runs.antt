@@ -11,7 +11,7 @@ use Rattle.rules.specs.Numbers.{larger, zero-f}
 use Rattle.rules.specs.Solver.{pin, spread, anyShort, fixedTotal, flexibleShareTotal, again, respread, Run, ran, run}
 use Rattle.rules.specs.declared.solving.Kid.{Kid}
 use Rattle.solver.specs.Loop.{allFixed, run-once, next-begins}
-use Rattle.solver.proofs.Branches.{not-true, not-false}
+use Rattle.loops.proofs.Branches.{not-true, not-false}
 
 -- what is left to run: `left` runs at most, p counted so far, and a child that is not held
 pub record Left (total : Float) (R : Run) (left p : ℕ) (ks : List Kid) : Type 0 where

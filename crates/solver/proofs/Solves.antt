@@ -18,8 +18,9 @@ use Rattle.rules.specs.declared.model.Reals.{Reals}
 use Rattle.rules.specs.declared.solving.Kid.{Kid}
 use Rattle.solver.specs.Demand.{solveSome}
 use Rattle.solver.specs.declared.Solved.{Solved}
-use Rattle.solver.specs.Call.{Padded, Clear, viewSolved, badInput}
-use Rattle.solver.proofs.Branches.{not-true, not-false}
+use Rattle.solver.specs.Call.{Clear, viewSolved, badInput}
+use Rattle.loops.specs.Padded.{Padded}
+use Rattle.loops.proofs.Branches.{not-true, not-false}
 
 -- ---- the input, test by test
 module _ (n m : ℕ) (total : Float) (ss ms : List Float) where

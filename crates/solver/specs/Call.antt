@@ -27,11 +27,6 @@ use Rattle.number.specs.Checks.{ShareOk, share-good, plus-good}
 use Rattle.solver.specs.Demand.{Input, Meets, solve-meets}
 use Rattle.solver.specs.declared.Solved.{Solved}
 
--- an array of 16 whose first n are xs, and the rest zeros
-pub record Padded (n : ℕ) (xs out : List Float) : Type 0 where
-  pub front : take n out ≡ xs
-  pub back : drop n out ≡ replicate (16 - n) zero-f
-
 -- what stands past the length is 0.0, and the length is not over 16
 pub record Clear (l : Reals) : Type 0 where
   pub few : l .len ≤ 16

@@ -1,11 +1,11 @@
 // The lengths of a split's children: util.rs's `solve_lengths_with_min`, with the count of its passes, and the public call over it.
 // The rule is rules::specs::Solver; what is proved of it stands in specs/.
 mod checks;
-mod fills;
-mod kids;
 mod passes;
-mod sums;
 
+use loops::fills;
+use loops::kids;
+use loops::sums;
 use rules::model::Reals;
 use rules::refusal::Answer;
 use rules::refusal::Refusal;
@@ -19,7 +19,8 @@ ghost use Rattle.rules.specs.Tree.{reals};
 ghost use Rattle.rules.specs.Solver.{solveLengthsWithMin, viewSolution};
 ghost use Rattle.rules.specs.Solver as Rules;
 ghost use Rattle.solver.specs.Loop.{allFixed};
-ghost use Rattle.solver.specs.Call.{Clear, Padded, viewSolved, badInput};
+ghost use Rattle.solver.specs.Call.{Clear, viewSolved, badInput};
+ghost use Rattle.loops.specs.Padded.{Padded};
 
 // The Rust's `Vec<f64>` of lengths, and how often the outer loop ran.
 pub struct Solved {

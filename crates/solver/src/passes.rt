@@ -23,8 +23,8 @@ pub fn run(total: f64, kids: [Kid; 16], n: usize) -> Ran
     let mut passes = 0u64;
     let mut left = n;
     while 0 < left {
-        let changed = crate::kids::any_short(ks, n);
-        let pinned = crate::kids::pin_all(ks, n);
+        let changed = loops::kids::any_short(ks, n);
+        let pinned = loops::kids::pin_all(ks, n);
         passes += 1;
         if !changed {
             return Ran {
@@ -32,15 +32,15 @@ pub fn run(total: f64, kids: [Kid; 16], n: usize) -> Ran
                 passes,
             };
         }
-        let flex = crate::sums::flexible_share_total(pinned, n);
+        let flex = loops::sums::flexible_share_total(pinned, n);
         if flex <= 0.0 {
             return Ran {
                 kids: pinned,
                 passes,
             };
         }
-        let room = number::larger(total - crate::sums::fixed_total(pinned, n), 0.0);
-        let next = crate::kids::spread_all(pinned, n, room, flex);
+        let room = number::larger(total - loops::sums::fixed_total(pinned, n), 0.0);
+        let next = loops::kids::spread_all(pinned, n, room, flex);
         ks = next;
         left -= 1;
     }

@@ -1,8 +1,8 @@
 // Dimbovala's public calls, with what each promises: the Rust's lib.rs. None has a precondition: each answers, or refuses with a number from document 01.
 // Each `ensures` equates what comes back with the rule of the call's name in crates/rules/specs, refusals included, for all inputs.
+use docking::Applying;
 use frame::Layout;
 use layout::LaidOut;
-use ops::Applying;
 use repair::Repairing;
 use rules::frame::LayoutInput;
 use rules::model::Reals;
@@ -24,7 +24,7 @@ ghost use Rattle.rules.specs.declared.refusal.Refusal.{Refusal};
 ghost use Rattle.rules.specs.declared.refusal.Answer.the-variants as Answers;
 ghost use Rattle.spec.specs.Draft.{Drafted};
 ghost use Rattle.repair.specs.Whole.{repaired};
-ghost use Rattle.ops.specs.Steps.{applied};
+ghost use Rattle.docking.specs.Steps.{applied};
 ghost use Rattle.layout.specs.Whole.{LaysOut};
 ghost use Rattle.frame.specs.Frames.{viewLayout};
 ghost use Rattle.solver.specs.Call.{Clear};

@@ -30,12 +30,12 @@ use Rattle.spec.specs.Draft.{DraftedIn}
 use Rattle.repair.specs.Whole.{arenaFrom}
 use Rattle.repair.specs.Settle.{Comes}
 use Rattle.repair.specs.declared.Settled.{Settled}
-use Rattle.ops.specs.Steps.{Comes as Becomes}
-use Rattle.ops.specs.declared.AppliedIn.{AppliedIn}
+use Rattle.docking.specs.Steps.{Comes as Becomes}
+use Rattle.docking.specs.declared.AppliedIn.{AppliedIn}
 use Rattle.layout.specs.Whole.{LaysOut}
 use Rattle.layout.specs.declared.LaidOut.{LaidOut}
 use Rattle.solver.specs.Call.{Clear}
-use Rattle.lending.specs.Lent.{Lot, lent, lotOk, opOk, opFrom, inputFrom}
+use Rattle.coding.specs.Lent.{Lot, lent, lotOk, opOk, opFrom, inputFrom}
 use Rattle.lending.specs.Parts.{Tells, Holds, Keeps, Writes, Fills}
 use Rattle.tiling_c.specs.Calls.{Builds, Mends, Repairs, soundCode, Changes, Applies, LaysInto, Solves}
 

@@ -5,7 +5,7 @@ use Prim.Native.Nat.{ℕ}
 use Rattle.rules.specs.Tree.{Arena}
 use Rattle.rules.specs.Repair.{Repaired}
 use Rattle.rules.specs.declared.refusal.Answer.{Answer}
-use Rattle.lending.specs.Lent.{Lot, lent}
+use Rattle.coding.specs.Lent.{Lot, lent}
 use Rattle.lending.specs.Parts.{Tells, Holds}
 use Rattle.tiling_c.specs.Calls.{Mends}
 

@@ -2,18 +2,18 @@
 // An arena is `top` (root, revision) and the four columns of the crate columns. Each call returns document 01's number, 0 where it is accepted, and writes
 // `out`: the two details, and a count (actions, items of a frame, lengths) with what stands beside it. A number that is no kind, mode, axis, placement or
 // operation is refused with 5, and then nothing is written.
+use coding::codes;
+use coding::operation;
 use lending::actions;
 use lending::arena;
 use lending::back;
-use lending::codes;
-use lending::operation;
 use lending::solving;
 use lending::tidy;
 use lending::told;
 ghost use mathlib.Core.Path.{_≡_};
 ghost use Rattle.rules.specs.Sound.{sound};
 ghost use Rattle.rules.specs.Solver.{solve};
-ghost use Rattle.lending.specs.Lent.{lot, lent, codesOk, realsOf};
+ghost use Rattle.coding.specs.Lent.{lot, lent, codesOk, realsOf};
 ghost use Rattle.tiling_c.specs.Calls.{Builds, Repairs, soundCode, Applies, LaysInto, Solves};
 
 // What a number that names nothing is answered with: document 01's 'bad input'.

@@ -1,5 +1,5 @@
 // Minima of a split's children: the Rust's SplitConstraints.
-use lists::reals;
+use real_lists::reals;
 use rules::model::Reals;
 ghost use mathlib.Core.Path.{_≡_};
 ghost use Prim.Native.Nat.{_≤_, _<_};

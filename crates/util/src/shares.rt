@@ -1,5 +1,5 @@
 // Shares of a split, and split fractions.
-use lists::reals;
+use real_lists::reals;
 use rules::model::Reals;
 ghost use mathlib.Core.Path.{_≡_};
 ghost use mathlib.Core.List.{map};

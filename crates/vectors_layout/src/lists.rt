@@ -2,12 +2,12 @@
 use frame::FocusOrder;
 use frame::Layout;
 use frame::PaintOrder;
-use frame::Painted;
 use frame::Panes;
 use frame::SplitChildren;
 use frame::SplitHandles;
 use frame::TabBars;
 use frame::Tabs;
+use items::Painted;
 use rules::frame::FrameItemId;
 use rules::frame::PaneFrame;
 use rules::frame::Rect;

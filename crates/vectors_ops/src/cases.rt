@@ -1,8 +1,7 @@
 // What the cases made by hand share: trees, operations, and how an answer is compared.
 use columns::pack;
-use lists::reals;
-use lists::tiles;
 use nodes::slots;
+use real_lists::reals;
 use rules::model::Axis;
 use rules::model::Kind;
 use rules::model::Placement;
@@ -13,6 +12,7 @@ use rules::model::TileTree;
 use rules::model::Tiles;
 use rules::operation::DockTarget;
 use rules::operation::TileOp;
+use tile_lists::tiles;
 ghost use mathlib.Core.Path.{_≡_};
 ghost use mathlib.Core.Bool.{true};
 ghost use mathlib.Core.List.{[], _∷_};
@@ -152,7 +152,7 @@ pub fn gives(t: TileTree, op: TileOp, wanted: TileTree) -> bool
         return false;
     }
     let tree = done.tree;
-    wire::same::same_tree(tree, wanted)
+    compare::same::same_tree(tree, wanted)
 }
 
 // Refused with this number, or accepted with 0; the tree comes back as it was given.
@@ -166,7 +166,7 @@ pub fn keeps(t: TileTree, op: TileOp, number: u64) -> bool
         return false;
     }
     let tree = done.tree;
-    wire::same::same_tree(tree, t)
+    compare::same::same_tree(tree, t)
 }
 
 pub fn one_more(n: u64, yes: bool) -> u64

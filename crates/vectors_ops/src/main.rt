@@ -47,7 +47,7 @@ fn step(b: &[u8], r: Run) -> Run {
     let after = wire::tree::tree_after(b, told.at, before);
     let wanted = after.tree;
     let tree = done.tree;
-    let alike = wire::same::same_tree(tree, wanted);
+    let alike = compare::same::same_tree(tree, wanted);
     Run {
         at: after.at,
         tree,

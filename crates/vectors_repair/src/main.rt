@@ -116,7 +116,7 @@ fn same_answer(b: &[u8], at: usize, before: TileTree, r: Repairing) -> bool {
     let after = wire::tree::tree_after(b, told.at, before);
     let wanted = after.tree;
     let tree = r.tree;
-    if !wire::same::same_tree(tree, wanted) {
+    if !compare::same::same_tree(tree, wanted) {
         return false;
     }
     let actions = r.actions;

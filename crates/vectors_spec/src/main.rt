@@ -26,7 +26,7 @@ fn same_answer(b: &[u8], at: usize, d: Draft) -> bool {
     let wanted = wire::tree::tree(b, told.at);
     let expected = wanted.tree;
     let tree = d.tree;
-    if !wire::same::same_tree(tree, expected) {
+    if !compare::same::same_tree(tree, expected) {
         return false;
     }
     wanted.at == b.len()

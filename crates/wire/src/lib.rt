@@ -1,6 +1,5 @@
 // Reading the stored answers that docs/VECTORS.md describes, from a slice and a place in it. Past the end everything reads as zero.
 pub mod input;
-pub mod same;
 pub mod threes;
 pub mod tree;
 

@@ -6,7 +6,7 @@ use borrow.Author.Needs.{needs}
 use Rattle.rules.specs.Tree.{reals}
 use Rattle.rules.specs.Solver.{solveLengthsWithMin, solverOk}
 use Rattle.solver.specs.Call.{viewSolved}
-use Rattle.solver.proofs.Branches.{not-true, not-false}
+use Rattle.loops.proofs.Branches.{not-true, not-false}
 use Rattle.solver.proofs.Solves.{ok-few, solve-refused, solve-accepted}
 use Rattle.solver.proofs.solve.Statement.{statement}
 use Rattle.solver.proofs.solve.Tie as tie

@@ -11,8 +11,8 @@ use Rattle.number.specs.Owned.{reals-taken}
 use Rattle.rules.specs.Tree.{reals}
 use Rattle.rules.specs.Solver.{still, tight, solveLengthsWithMin}
 use Rattle.solver.specs.Loop.{allFixed, start-begins}
-use Rattle.solver.specs.Call.{Padded}
-use Rattle.solver.proofs.Filling.{zeros, padded-none, padded-zeros}
+use Rattle.loops.specs.Padded.{Padded}
+use Rattle.loops.proofs.Filling.{zeros, padded-none, padded-zeros}
 use Rattle.solver.proofs.Solves.{shown, same-for, solve-none, solve-zero, solve-tight, solve-loose}
 use Rattle.solver.proofs.solve_lengths_with_min.Statement.{statement}
 use Rattle.solver.proofs.solve_lengths_with_min.Tie as tie

@@ -3,7 +3,7 @@ use mathlib.Core.Path.{sym, _∙_}
 use mathlib.Core.Bool.{true, false}
 use lib.ListN.{getD}
 use borrow.Author.Tests.{not-true, not-false}
-use Rattle.lending.specs.Lent.{lot, lent, codesOk}
+use Rattle.coding.specs.Lent.{lot, lent, codesOk}
 use Rattle.rules.specs.Sound.{sound}
 use Rattle.tiling_c.proofs.CallLaws.{sound-bad, sound-is}
 use Rattle.lending.proofs.TidyLaws.{tidy-lent, tidy-plain}

@@ -1,7 +1,7 @@
 -- `tiling_c::tiling_layout_into`: codes that are none, or what the layout answered. Assumes nothing.
 use mathlib.Core.Path.{sym, _∙_}
 use borrow.Author.Tests.{not-true, not-false}
-use Rattle.lending.specs.Lent.{lot, lent}
+use Rattle.coding.specs.Lent.{lot, lent}
 use Rattle.tiling_c.proofs.CallLaws.{lays-bad, lays-good}
 use Rattle.lending.proofs.TidyLaws.{tidy-lent, tidy-plain}
 use borrow.Author.Needs.{needs}

@@ -1,7 +1,7 @@
 -- `tiling_c::tiling_solve` tells what the solver answered, and writes the lengths. Assumes nothing.
 use mathlib.Core.Path.{_∙_}
 use Rattle.rules.specs.Solver.{solve}
-use Rattle.lending.specs.Lent.{realsOf}
+use Rattle.coding.specs.Lent.{realsOf}
 use Rattle.tiling_c.proofs.CallLaws.{solves}
 use borrow.Author.Needs.{needs}
 use Rattle.tiling_c.proofs.tiling_solve.Statement.{statement}

@@ -3,7 +3,7 @@ use mathlib.Core.Bool.{cond}
 use mathlib.Core.Path.{sym}
 use lib.Dec.{eqb}
 use lib.Ieee.{binary64, toBits}
-use Rattle.wire.proofs.Bits.{no-nan}
+use Rattle.compare.proofs.Bits.{no-nan}
 use Rattle.wire.proofs.has_bits.Statement.{statement}
 use Rattle.wire.proofs.has_bits.Tie as tie
 

@@ -15,7 +15,7 @@ use Rattle.rules.specs.Tree as Tree
 use Rattle.rules.specs.Repair.{entry, entries}
 use Rattle.columns.specs.Columns.{axisFrom, nodeBy, nodesFrom}
 use Rattle.columns.specs.ColumnLaws.{nodes-at, split-of}
-use Rattle.normalize.specs.Walked.{entriesOf}
+use Rattle.sifting.specs.Walked.{entriesOf}
 use Rattle.normalize.proofs.WalkLaws.{entries-at, entries-long}
 use Rattle.calm.specs.Calm.{calm, calmKids, look}
 use Rattle.calm.proofs.NodeLaws.{calm-zero, calm-out, calm-claimed, calm-at, ends, one-less, long′, pane-read, group-read, split-read, Going, going-none, going-room, going-stop, going-melts, going-more, going-done}
@@ -33,7 +33,7 @@ use Rattle.calm.proofs.leaves.stopped.Reads as stopped-reads
 use Rattle.calm.proofs.nodes.hold.Reads as hold-reads
 use Rattle.calm.proofs.nodes.melts_in.Reads as melts-in-reads
 use Rattle.lists.proofs.ids.get.Reads as ids-get-reads
-use Rattle.lists.proofs.reals.get.Reads as reals-get-reads
+use Rattle.real_lists.proofs.reals.get.Reads as reals-get-reads
 use Rattle.calm.proofs.nodes.+calm_node+calm_split.{statement}
 use Rattle.calm.proofs.nodes.+calm_node+calm_split.Tie.{close}
 

@@ -7,8 +7,8 @@ use borrow.Author.Tests.{not-true, not-false}
 use lib.Dec.{eqb}
 use lib.ListN.{length, getD, replicate, length-replicate}
 use Rattle.rules.specs.Frame.{childOf}
-use Rattle.frame.specs.Lists.{childFrom}
-use Rattle.frame.proofs.Laws.{Going, going-none, going-skip, going-take, going-done, room-left, child-by}
+use Rattle.items.specs.Lists.{childFrom}
+use Rattle.items.proofs.Laws.{Going, going-none, going-skip, going-take, going-done, room-left, child-by}
 use Rattle.frame.proofs.branches.split_children.Statement.{statement}
 use Rattle.frame.proofs.branches.split_children.Tie as tie
 

@@ -7,8 +7,8 @@ use borrow.Author.Tests.{not-true, not-false}
 use lib.Dec.{ltb}
 use lib.ListN.{length, getD, replicate, length-replicate}
 use Rattle.rules.specs.Frame.{handleOf}
-use Rattle.frame.specs.Lists.{handleFrom}
-use Rattle.frame.proofs.Laws.{Going, going-none, going-skip, going-take, going-done, room-left, handle-by}
+use Rattle.items.specs.Lists.{handleFrom}
+use Rattle.items.proofs.Laws.{Going, going-none, going-skip, going-take, going-done, room-left, handle-by}
 use Rattle.frame.proofs.branches.split_handles.Statement.{statement}
 use Rattle.frame.proofs.branches.split_handles.Tie as tie
 

@@ -7,8 +7,8 @@ use borrow.Author.Tests.{not-true, not-false}
 use lib.Dec.{eqb}
 use lib.ListN.{length, getD, replicate, length-replicate}
 use Rattle.rules.specs.Frame.{paneOf}
-use Rattle.frame.specs.Lists.{paneFrom}
-use Rattle.frame.proofs.Laws.{Going, going-none, going-skip, going-take, going-done, room-left, pane-by}
+use Rattle.items.specs.Lists.{paneFrom}
+use Rattle.items.proofs.Laws.{Going, going-none, going-skip, going-take, going-done, room-left, pane-by}
 use Rattle.frame.proofs.leaves.panes.Statement.{statement}
 use Rattle.frame.proofs.leaves.panes.Tie as tie
 

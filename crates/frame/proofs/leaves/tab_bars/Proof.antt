@@ -7,8 +7,8 @@ use borrow.Author.Tests.{not-true, not-false}
 use lib.Dec.{eqb}
 use lib.ListN.{length, getD, replicate, length-replicate}
 use Rattle.rules.specs.Frame.{barOf}
-use Rattle.frame.specs.Lists.{barFrameFrom}
-use Rattle.frame.proofs.Laws.{Going, going-none, going-skip, going-take, going-done, room-left, bar-by}
+use Rattle.items.specs.Lists.{barFrameFrom}
+use Rattle.items.proofs.Laws.{Going, going-none, going-skip, going-take, going-done, room-left, bar-by}
 use Rattle.frame.proofs.leaves.tab_bars.Statement.{statement}
 use Rattle.frame.proofs.leaves.tab_bars.Tie as tie
 

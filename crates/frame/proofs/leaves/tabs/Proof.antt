@@ -7,8 +7,8 @@ use borrow.Author.Tests.{not-true, not-false}
 use lib.Dec.{eqb}
 use lib.ListN.{length, getD, replicate, length-replicate}
 use Rattle.rules.specs.Frame.{tabOf}
-use Rattle.frame.specs.Lists.{tabFrom}
-use Rattle.frame.proofs.Laws.{Going, going-none, going-skip, going-take, going-done, room-left, tab-by}
+use Rattle.items.specs.Lists.{tabFrom}
+use Rattle.items.proofs.Laws.{Going, going-none, going-skip, going-take, going-done, room-left, tab-by}
 use Rattle.frame.proofs.leaves.tabs.Statement.{statement}
 use Rattle.frame.proofs.leaves.tabs.Tie as tie
 

@@ -7,7 +7,7 @@ use borrow.Author.Tests.{not-true, not-false}
 use lib.Dec.{eqb}
 use lib.ListN.{length, getD, replicate, length-replicate}
 use Rattle.rules.specs.Frame.{focusOf}
-use Rattle.frame.proofs.Laws.{Going, going-none, going-skip, going-take, going-done, room-left, focus-by}
+use Rattle.items.proofs.Laws.{Going, going-none, going-skip, going-take, going-done, room-left, focus-by}
 use Rattle.frame.proofs.orders.focus_order.Statement.{statement}
 use Rattle.frame.proofs.orders.focus_order.Tie as tie
 

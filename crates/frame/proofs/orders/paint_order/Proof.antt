@@ -10,9 +10,9 @@ use Rattle.rules.specs.Frame.{paintOf}
 use mathlib.Core.Bool.{Bool, _&&_}
 use Rattle.rules.specs.declared.frame.FrameItemId.{FrameItemId}
 use Rattle.columns.specs.PackLaws.{map-set}
-use Rattle.frame.specs.Lists.{painted, paintedFrom}
+use Rattle.items.specs.Lists.{painted, paintedFrom}
 use Rattle.frame.specs.Frames.{itemOf}
-use Rattle.frame.proofs.Laws.{Going, going-none, going-skip, going-take, going-done, room-left, paint-by}
+use Rattle.items.proofs.Laws.{Going, going-none, going-skip, going-take, going-done, room-left, paint-by}
 use Rattle.frame.proofs.orders.paint_order.Statement.{statement}
 use Rattle.frame.proofs.orders.paint_order.Tie as tie
 

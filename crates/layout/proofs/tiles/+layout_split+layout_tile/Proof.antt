@@ -9,8 +9,8 @@ use lib.Ieee.{ofBits}
 use Rattle.rules.specs.Tree.{tile, reals}
 use Rattle.rules.specs.Frame.{layoutKids, layoutTile}
 use Rattle.columns.specs.Columns.{nodesFrom}
-use Rattle.layout.specs.Stream.{stream, pushAll}
-use Rattle.layout.proofs.Laws.{kids-more, kids-done}
+use Rattle.streaming.specs.Stream.{stream, pushAll}
+use Rattle.streaming.proofs.Laws.{kids-more, kids-done}
 use Rattle.layout.proofs.TileLaws.{tile-zero, tile-past, tile-empty, tile-pane, tile-tabs, tile-split, split-done}
 use Prim.Native.Nat.{ℕ, _<_}
 use borrow.Fn.Kinds.{In}
@@ -21,16 +21,16 @@ use Rattle.layout.proofs.tiles.+layout_split+layout_tile.Lts-layout_spl
 use Rattle.layout.proofs.tiles.layout_tile.Reads as layout-tile
 use Rattle.layout.proofs.tiles.layout_tile.Kinds as layout-tile-kinds
 use Rattle.layout.proofs.tiles.+layout_split+layout_tile.Lts-layout_tile as layout-tile-lts
-use Rattle.layout.proofs.splits.along_rect.Reads as along-rect-reads
-use Rattle.layout.proofs.splits.along_start.Reads as along-start-reads
-use Rattle.layout.proofs.splits.axis_of.Reads as axis-of-reads
-use Rattle.layout.proofs.splits.full.Reads as full-reads
-use Rattle.layout.proofs.splits.split_lengths.Reads as split-lengths-reads
-use Rattle.layout.proofs.stream.push_child.Reads as push-child-reads
-use Rattle.layout.proofs.tabs.layout_tabs.Reads as layout-tabs-reads
+use Rattle.placing.proofs.splits.along_rect.Reads as along-rect-reads
+use Rattle.placing.proofs.splits.along_start.Reads as along-start-reads
+use Rattle.placing.proofs.splits.axis_of.Reads as axis-of-reads
+use Rattle.placing.proofs.splits.full.Reads as full-reads
+use Rattle.placing.proofs.splits.split_lengths.Reads as split-lengths-reads
+use Rattle.streaming.proofs.stream.push_child.Reads as push-child-reads
+use Rattle.streaming.proofs.tabs.layout_tabs.Reads as layout-tabs-reads
 use Rattle.layout.proofs.tiles.handle_after.Reads as handle-after-reads
 use Rattle.layout.proofs.tiles.layout_pane.Reads as layout-pane-reads
-use Rattle.lists.proofs.reals.get.Reads as get-reads
+use Rattle.real_lists.proofs.reals.get.Reads as get-reads
 use Rattle.layout.proofs.tiles.+layout_split+layout_tile.{statement}
 use Rattle.layout.proofs.tiles.+layout_split+layout_tile.Tie.{close}
 

@@ -1,7 +1,7 @@
 -- `layout::tiles::handle_after`: a handle or nothing. Assumes nothing.
 use Rattle.rules.specs.Tree.{tile}
-use Rattle.layout.specs.Stream.{stream}
-use Rattle.layout.proofs.Laws.{handle-yes, handle-no}
+use Rattle.streaming.specs.Stream.{stream}
+use Rattle.streaming.proofs.Laws.{handle-yes, handle-no}
 use borrow.Author.Needs.{needs}
 use Rattle.layout.proofs.tiles.handle_after.Statement.{statement}
 use Rattle.layout.proofs.tiles.handle_after.Tie as tie

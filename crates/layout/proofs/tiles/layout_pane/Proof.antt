@@ -2,7 +2,7 @@
 use mathlib.Core.Path.{ap, _∙_}
 use Rattle.rules.specs.Tree.{tile}
 use Rattle.rules.specs.Frame.{aPane}
-use Rattle.layout.specs.Stream.{pushItem}
+use Rattle.streaming.specs.Stream.{pushItem}
 use borrow.Author.Needs.{needs}
 use Rattle.layout.proofs.tiles.layout_pane.Statement.{statement}
 use Rattle.layout.proofs.tiles.layout_pane.Tie as tie

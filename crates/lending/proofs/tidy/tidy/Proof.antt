@@ -5,7 +5,7 @@ use Prim.Native.Nat.{_≤_, _-_}
 use native.Mathlib.Omega.{arith}
 use lib.ListN.{length}
 use Rattle.columns.specs.PackLaws.{Copied, mapped-none, mapped-more, mapped-all}
-use Rattle.lending.specs.Lent.{tidied}
+use Rattle.coding.specs.Lent.{tidied}
 use borrow.Author.Needs.{needs}
 use Rattle.lending.proofs.tidy.tidy.Statement.{statement}
 use Rattle.lending.proofs.tidy.tidy.Tie as tie

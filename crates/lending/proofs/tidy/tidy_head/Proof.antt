@@ -2,7 +2,7 @@
 use mathlib.Core.Path.{sym, ap}
 use Prim.Native.Nat.{ℕ}
 use lib.ListN.{getD}
-use Rattle.lending.specs.Lent.{tidiedBy}
+use Rattle.coding.specs.Lent.{tidiedBy}
 use Rattle.lending.proofs.TidyLaws.{tidied-split}
 use borrow.Author.Needs.{needs}
 use Rattle.lending.proofs.tidy.tidy_head.Statement.{statement}

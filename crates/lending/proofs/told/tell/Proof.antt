@@ -1,7 +1,7 @@
 -- `tiling_c::told::tell` writes what the answer is called. Assumes nothing.
 use mathlib.Core.Path.{ap}
 use Rattle.rules.specs.Refusals.{Told}
-use Rattle.lending.specs.Lent.{outOf}
+use Rattle.coding.specs.Lent.{outOf}
 use borrow.Author.Needs.{needs}
 use Rattle.lending.proofs.told.tell.Statement.{statement}
 use Rattle.lending.proofs.told.tell.Tie as tie

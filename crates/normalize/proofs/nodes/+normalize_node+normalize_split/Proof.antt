@@ -11,7 +11,7 @@ use Rattle.rules.specs.Numbers.{zero-f}
 use Rattle.rules.specs.Repair.{entry}
 use Rattle.rules.specs.Tree.{tile, ids, reals}
 use Rattle.forest.specs.Lists.{free}
-use Rattle.normalize.specs.Work.{Cols, cols}
+use Rattle.sifting.specs.Work.{Cols, cols}
 use Rattle.columns.specs.Columns.{nodeBy}
 use Rattle.normalize.proofs.WalkLaws.{slot-is, gone-out, gone-claimed, gone-empty, dropped, Going, Ctx, context, start, falls-by, room-for, room-end, too-wide, room-placed, too-many, one-more, all-done, not-wide}
 use borrow.Fn.Kinds.{In}
@@ -23,10 +23,10 @@ use Rattle.normalize.proofs.nodes.normalize_split.Reads as normalize-sp
 use Rattle.normalize.proofs.nodes.normalize_split.Kinds as normalize-split-kinds
 use Rattle.normalize.proofs.nodes.+normalize_node+normalize_split.Lts-normalize_split as normalize-split-lts
 use Rattle.lists.proofs.ids.get.Reads as ids-get-reads
-use Rattle.lists.proofs.reals.get.Reads as reals-get-reads
-use Rattle.normalize.proofs.leaves.gone.Reads as gone-reads
-use Rattle.normalize.proofs.leaves.group_step.Reads as group-step-reads
-use Rattle.normalize.proofs.leaves.pane_step.Reads as pane-step-reads
+use Rattle.real_lists.proofs.reals.get.Reads as reals-get-reads
+use Rattle.sifting.proofs.leaves.gone.Reads as gone-reads
+use Rattle.sifting.proofs.leaves.group_step.Reads as group-step-reads
+use Rattle.sifting.proofs.leaves.pane_step.Reads as pane-step-reads
 use Rattle.normalize.proofs.nodes.is_wide.Reads as is-wide-reads
 use Rattle.normalize.proofs.nodes.measured.Reads as measured-reads
 use Rattle.normalize.proofs.nodes.none.Reads as none-reads

@@ -4,9 +4,9 @@ use mathlib.Core.Bool.{Bool, not, _||_}
 use borrow.Author.Needs.{needs}
 use Rattle.rules.specs.Tree.{tile}
 use Rattle.rules.specs.declared.model.RepairAction.the-variants.{RepairedShares}
-use Rattle.normalize.specs.Work.{cols}
-use Rattle.normalize.specs.Splits.{Long}
-use Rattle.normalize.proofs.SplitLaws.{closed-more}
+use Rattle.sifting.specs.Work.{cols}
+use Rattle.melting.specs.Splits.{Long}
+use Rattle.melting.proofs.SplitLaws.{closed-more}
 use Rattle.normalize.proofs.splits.keep_split.Statement.{statement}
 use Rattle.normalize.proofs.splits.keep_split.Tie as tie
 

@@ -2,8 +2,8 @@
 use Prim.Native.Nat.{_*_}
 use borrow.Author.Needs.{needs}
 use Rattle.forest.specs.Lists.{free}
-use Rattle.normalize.specs.Work.{cols}
-use Rattle.normalize.proofs.SplitLaws.{placed-kept, room-kept, placed-gone}
+use Rattle.sifting.specs.Work.{cols}
+use Rattle.melting.proofs.SplitLaws.{placed-kept, room-kept, placed-gone}
 use Rattle.normalize.proofs.splits.place.Statement.{statement}
 use Rattle.normalize.proofs.splits.place.Tie as tie
 

@@ -5,8 +5,8 @@ use borrow.Author.Needs.{needs}
 use borrow.Author.Tests.{not-true, not-false}
 use Rattle.rules.specs.Tree.{tile}
 use Rattle.rules.specs.declared.model.RepairAction.the-variants.{CollapsedSplit}
-use Rattle.normalize.specs.Work.{cols}
-use Rattle.normalize.proofs.SplitLaws.{melts-past, placed-one, placed-over, placed-melted}
+use Rattle.sifting.specs.Work.{cols}
+use Rattle.melting.proofs.SplitLaws.{melts-past, placed-one, placed-over, placed-melted}
 use Rattle.normalize.proofs.splits.place_at.Statement.{statement}
 use Rattle.normalize.proofs.splits.place_at.Tie as tie
 

@@ -3,9 +3,9 @@ use mathlib.Core.Path.{refl}
 use borrow.Author.Needs.{needs}
 use Rattle.rules.specs.Tree.{tile}
 use Rattle.rules.specs.declared.model.RepairAction.the-variants.{RemovedInvalidNode, CollapsedSplit}
-use Rattle.normalize.specs.Work.{cols}
-use Rattle.normalize.specs.Splits.{Long}
-use Rattle.normalize.proofs.SplitLaws.{closed-none, closed-one}
+use Rattle.sifting.specs.Work.{cols}
+use Rattle.melting.specs.Splits.{Long}
+use Rattle.melting.proofs.SplitLaws.{closed-none, closed-one}
 use Rattle.normalize.proofs.splits.split_done.Statement.{statement}
 use Rattle.normalize.proofs.splits.split_done.Tie as tie
 

@@ -6,7 +6,7 @@ use borrow.Author.Needs.{needs}
 use Rattle.rules.specs.Shares.{eqReals}
 use Rattle.rules.specs.Tree.{tile, reals}
 use Rattle.rules.specs.declared.model.RepairAction.the-variants.{RepairedShares, RepairedConstraints}
-use Rattle.normalize.proofs.SplitLaws.{bad-noted}
+use Rattle.melting.proofs.SplitLaws.{bad-noted}
 use Rattle.normalize.proofs.splits.split_noted.Statement.{statement}
 use Rattle.normalize.proofs.splits.split_noted.Tie as tie
 

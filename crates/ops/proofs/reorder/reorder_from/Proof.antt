@@ -6,7 +6,7 @@ use Rattle.columns.specs.Columns.{nodesFrom}
 use Rattle.columns.specs.RowLaws.{even-long}
 use Rattle.repair.specs.Whole.{arenaFrom}
 use Rattle.nodes.specs.Parts.{reorderedIn}
-use Rattle.ops.specs.Steps.{reorderAs}
+use Rattle.docking.specs.Steps.{reorderAs}
 use Rattle.ops.proofs.OpLaws.{only-goes, reorder-stays, reorder-moves}
 use borrow.Author.Needs.{needs}
 use Rattle.ops.proofs.reorder.reorder_from.Statement.{statement}

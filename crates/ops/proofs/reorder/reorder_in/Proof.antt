@@ -10,7 +10,7 @@ use Rattle.lists.specs.Find.{placeOf}
 use Rattle.repair.specs.Whole.{arenaFrom}
 use Rattle.nodes.proofs.SlotLaws.{tabs-few}
 use Rattle.nodes.proofs.GroupLaws.{group-kind, group-panes}
-use Rattle.ops.specs.Steps.{reorderAs}
+use Rattle.docking.specs.Steps.{reorderAs}
 use Rattle.ops.proofs.OpLaws.{steps-like, refused-as, reorder-place, reorder-absent, reorder-found}
 use Rattle.rules.specs.Operations as Rule
 use borrow.Author.Needs.{needs}

@@ -6,8 +6,8 @@ use borrow.Author.Needs.{needs}
 use lib.ListN.{length}
 use lib.Ieee.{nan}
 use Rattle.rules.specs.Numbers.{minimumOk}
-use Rattle.solver.proofs.Loops.{Tested, tested-step, tested-fails, tested-end}
-use Rattle.solver.proofs.Branches.{not-true, not-false}
+use Rattle.loops.proofs.Loops.{Tested, tested-step, tested-fails, tested-end}
+use Rattle.loops.proofs.Branches.{not-true, not-false}
 use Rattle.solver.proofs.checks.minima_ok.Statement.{statement}
 use Rattle.solver.proofs.checks.minima_ok.Tie as tie
 

@@ -1,0 +1,3 @@
+pub mod Trees
+pub mod Near
+pub mod Steps

@@ -1,0 +1,122 @@
+-- Loops that fill an array from its start, one law for all of them: the first i are p's first i, and the rest are as they were. Assumes nothing.
+use mathlib.Core.Path.{_≡_, refl, sym, ap, _∙_, subst}
+use mathlib.Core.Bool.{false}
+use mathlib.Core.List.{List, [], _∷_, _++_, map}
+use Prim.Native.Nat.{ℕ, zero, suc, _+_, _-_, _≤_, _<_}
+use native.Mathlib.Nat.{add-zero, sub-zero}
+use native.Mathlib.Numerals.{add-one}
+use native.Mathlib.Omega.{arith}
+use lib.ListN.{length, getD, take, drop, set, length-set, replicate, replicate-append-replicate}
+use lib.Seq.{getD-drop, take-suc, take-suc-set, drop-set-lt, drop-drop, length-take-le}
+use lib.Ieee.{Float}
+use Rattle.rules.specs.Numbers.{zero-f}
+use Rattle.rules.specs.Solver.{part, start}
+use Rattle.rules.specs.declared.solving.Kid.{Kid}
+use Rattle.loops.specs.Padded.{Padded}
+
+pub record Filled {B : Type 0} (p : ℕ → List B) (out₀ out : List B) (i : ℕ) : Type 0 where
+  pub long : length out ≡ length out₀
+  pub done : take i out ≡ p i
+  pub rest : drop i out ≡ drop i out₀
+
+pub filled-start : {B : Type 0} (p : ℕ → List B) (out : List B) → p 0 ≡ [] → Filled p out out 0
+filled-start p out e = record { long = refl; done = sym e; rest = refl }
+
+pub filled-step : {B : Type 0} (p : ℕ → List B) (out₀ out : List B) (i : ℕ) (v : B) → i < length out₀ → p (i + 1) ≡ p i ++ (v ∷ []) → Filled p out₀ out i → Filled p out₀ (set out i v) (i + 1)
+filled-step {B} p out₀ out i v h e f =
+    let k : i < length out = omega (arith, f .long) in
+    record {
+      long = length-set out i v ∙ f .long;
+      done = ap (λ (j : ℕ). take j (set out i v)) (add-one i) ∙ take-suc-set out i v k ∙ ap (λ (l : List B). l ++ (v ∷ [])) (f .done) ∙ sym e;
+      rest = drop-set-lt (i + 1) out i v (omega arith) ∙ sym (drop-drop 1 i out) ∙ ap (drop 1) (f .rest) ∙ drop-drop 1 i out₀;
+    }
+
+-- what an element that was not reached yet is
+pub filled-read : {B : Type 0} (p : ℕ → List B) (out₀ out : List B) (i : ℕ) (d : B) → Filled p out₀ out i → getD out i d ≡ getD out₀ i d
+filled-read {B} p out₀ out i d f =
+    ap (λ (k : ℕ). getD out k d) (sym (add-zero i)) ∙ sym (getD-drop i out 0 d) ∙ ap (λ (z : List B). getD z 0 d) (f .rest) ∙ getD-drop i out₀ 0 d ∙ ap (λ (k : ℕ). getD out₀ k d) (add-zero i)
+
+pub filled-end : {B : Type 0} (p : ℕ → List B) (out₀ out : List B) (n i : ℕ) → n ≤ i → i ≤ n → Filled p out₀ out i → take n out ≡ p n
+filled-end p out₀ out n i h k f =
+    let e : i ≡ n = omega arith in
+    subst (λ (j : ℕ). take j out ≡ p j) e (f .done)
+
+drop-replicate : {B : Type 0} (n m : ℕ) (b : B) → drop n (replicate m b) ≡ replicate (m - n) b
+drop-replicate zero m b = ap (λ (k : ℕ). replicate k b) (sym (sub-zero m))
+drop-replicate (suc n) zero b = ap (λ (k : ℕ). replicate k b) (none n)
+  where
+    none : (n : ℕ) → 0 ≡ 0 - suc n
+    none n = omega arith
+drop-replicate (suc n) (suc m) b = drop-replicate n m b ∙ ap (λ (k : ℕ). replicate k b) (down m n)
+  where
+    down : (m n : ℕ) → m - n ≡ suc m - suc n
+    down m n = omega arith
+
+abbrev pub zeros : List Float
+zeros = replicate 16 zero-f
+
+pub zeros-long : length zeros ≡ 16
+zeros-long = refl
+
+-- an array of zeros that was filled
+pub padded-end : (p : ℕ → List Float) (out : List Float) (n i : ℕ) → n ≤ i → i ≤ n → Filled p zeros out i → Padded n (p n) out
+padded-end p out n i h k f =
+    let e : i ≡ n = omega arith in
+    record { front = filled-end p zeros out n i h k f; back = subst (λ (j : ℕ). drop j out ≡ drop j zeros) e (f .rest) ∙ drop-replicate n 16 zero-f }
+
+pub padded-none : Padded 0 [] zeros
+padded-none = record { front = refl; back = refl }
+
+pub padded-zeros : (n : ℕ) → n ≤ 16 → Padded n (replicate n zero-f) zeros
+padded-zeros n h = record { front = take-replicate n 16 h; back = drop-replicate n 16 zero-f }
+  where
+    take-replicate : (n m : ℕ) → n ≤ m → take n (replicate m zero-f) ≡ replicate n zero-f
+    take-replicate zero m h = refl
+    take-replicate (suc n) zero h = absurd (no n h)
+      where
+        no : (n : ℕ) → suc n ≤ 0 → ⊥
+        no n h = omega arith
+    take-replicate (suc n) (suc m) h = ap (λ (l : List Float). zero-f ∷ l) (take-replicate n m (omega arith))
+
+-- ---- what is filled in: the first i of it, and one more
+pub take-more : {A : Type 0} (l : List A) (i : ℕ) (d : A) → i < length l → take (i + 1) l ≡ take i l ++ (getD l i d ∷ [])
+take-more l i d h = ap (λ (j : ℕ). take j l) (add-one i) ∙ take-suc l i d h
+
+map-append-one : {A B : Type 0} (g : A → B) (xs : List A) (x : A) → map g (xs ++ (x ∷ [])) ≡ map g xs ++ (g x ∷ [])
+map-append-one g [] x = refl
+map-append-one {A} {B} g (y ∷ xs) x = ap (λ (l : List B). g y ∷ l) (map-append-one g xs x)
+
+pub map-more : {A B : Type 0} (g : A → B) (l : List A) (i : ℕ) (d : A) → i < length l → map g (take (i + 1) l) ≡ map g (take i l) ++ (g (getD l i d) ∷ [])
+map-more g l i d h = ap (map g) (take-more l i d h) ∙ map-append-one g (take i l) (getD l i d)
+
+pub same-more : {B : Type 0} (b : B) (i : ℕ) → replicate (i + 1) b ≡ replicate i b ++ (b ∷ [])
+same-more b i = sym (replicate-append-replicate i 1 b)
+
+abbrev pub fresh : Float → Float → Float → Float → Kid
+fresh t w s m = record { share = s; minimum = m; size = part t s w; fixed = false }
+
+start-one : (t w : Float) (ss ms : List Float) (s m : Float) → length ss ≡ length ms → start t w (ss ++ (s ∷ [])) (ms ++ (m ∷ [])) ≡ start t w ss ms ++ (fresh t w s m ∷ [])
+unfolding start
+start-one t w [] [] s m e = refl
+start-one t w [] (y ∷ ms) s m e = absurd (no (length ms) e)
+  where
+    no : (n : ℕ) → 0 ≡ suc n → ⊥
+    no n e = omega arith
+start-one t w (x ∷ ss) [] s m e = absurd (no (length ss) e)
+  where
+    no : (n : ℕ) → suc n ≡ 0 → ⊥
+    no n e = omega arith
+start-one t w (x ∷ ss) (y ∷ ms) s m e = ap (λ (l : List Kid). fresh t w x y ∷ l) (start-one t w ss ms s m (back (length ss) (length ms) e))
+  where
+    back : (a b : ℕ) → suc a ≡ suc b → a ≡ b
+    back a b e = omega arith
+
+pub start-none : (t w : Float) (ss ms : List Float) → start t w (take 0 ss) (take 0 ms) ≡ []
+unfolding start
+start-none t w ss ms = refl
+
+pub start-more : (t w : Float) (ss ms : List Float) (i : ℕ) (d : Float) → i < length ss → i < length ms
+    → start t w (take (i + 1) ss) (take (i + 1) ms) ≡ start t w (take i ss) (take i ms) ++ (fresh t w (getD ss i d) (getD ms i d) ∷ [])
+start-more t w ss ms i d h k =
+    (λ j. start t w (take-more ss i d h j) (take-more ms i d k j))
+    ∙ start-one t w (take i ss) (take i ms) (getD ss i d) (getD ms i d) (length-take-le i ss (omega arith) ∙ sym (length-take-le i ms (omega arith)))

@@ -1,0 +1,3 @@
+pub mod Loops
+pub mod Filling
+pub mod Branches
