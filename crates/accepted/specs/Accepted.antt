@@ -26,7 +26,7 @@ use Rattle.forest.specs.Loose.{Loose, shown, Held}
 use Rattle.forest.specs.Kept.{keeps-panes}
 use Rattle.forest.specs.Settled.{Lone, settled}
 use Rattle.forest.specs.Soundness.{settled-sound, Finished, finished-sound, finished-reached, slots-inside}
-use Rattle.spec.specs.Draft.{Drafted, drafted-same}
+use Rattle.drafting.specs.Draft.{Drafted, drafted-same}
 use Rattle.accepted.specs.Standing.{read-fits, held}
 
 -- ---- the way to an accepted answer

@@ -4,3 +4,4 @@ pub mod ColumnLaws
 pub mod OverLaws
 pub mod PackLaws
 pub mod RowLaws
+pub mod Shown

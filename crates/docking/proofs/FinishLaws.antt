@@ -24,7 +24,7 @@ use Rattle.forest.specs.Finish.{normalized}
 use Rattle.columns.specs.Columns.{nodeBy, nodesFrom}
 use Rattle.columns.specs.Pack.{firstOf, overHead, overOf, Even}
 use Rattle.columns.specs.RowLaws.{even-head, even-row}
-use Rattle.repair.specs.Whole.{arenaFrom, Plain}
+use Rattle.columns.specs.Shown.{arenaFrom, Plain}
 use Rattle.nodes.proofs.SlotLaws.{or-left, or-right}
 use Rattle.docking.specs.Steps.{Makes, Comes}
 use Rattle.docking.specs.declared.AppliedIn.{AppliedIn}

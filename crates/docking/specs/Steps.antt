@@ -24,7 +24,7 @@ use Rattle.docking.specs.declared.Stepped.the-variants.{Refused, Unchang
 use Rattle.forest.specs.Lists.{All}
 use Rattle.columns.specs.Columns.{nodesFrom}
 use Rattle.columns.specs.Pack.{firstOf, Even}
-use Rattle.repair.specs.Whole.{arenaFrom}
+use Rattle.columns.specs.Shown.{arenaFrom}
 use Rattle.nodes.specs.Find.{scanPane, scanParent, isSplit}
 use Rattle.nodes.specs.Parts.{Spared}
 use Rattle.docking.specs.Near.{Alike}

@@ -1,3 +1,2 @@
-pub mod TileLaws
 pub mod ReadLaws
 pub mod WholeLaws

@@ -14,10 +14,10 @@ use Rattle.rules.specs.declared.refusal.Answer.{Answer}
 use Rattle.rules.specs.declared.refusal.Answer.the-variants.{Accepted, Refused}
 use Rattle.rules.specs.declared.refusal.Refusal.{Refusal}
 use Rattle.rules.specs.declared.refusal.Refusal.the-variants.{NotSound, BadInput}
-use Rattle.repair.specs.Whole.{arenaFrom, Plain}
+use Rattle.columns.specs.Shown.{arenaFrom, Plain}
 use Rattle.frames.specs.Fits.{items-fit}
 use Rattle.streaming.specs.Stream.{codeOf, sidesOf, stream, itemsFrom, itemsIn, pushAll}
-use Rattle.layout.specs.Grid.{Grid}
+use Rattle.laying.specs.Grid.{Grid}
 use Rattle.layout.specs.Whole.{LaysOut}
 use Rattle.layout.specs.declared.LaidOut.{LaidOut}
 use Rattle.layout.proofs.ReadLaws.{items-back, Wrote, wrote-all}

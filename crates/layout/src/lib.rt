@@ -3,7 +3,6 @@
 // layout_tile makes them. The lists of a frame are the items of a kind, in that order.
 use rules::refusal::Answer;
 
-pub mod tiles;
 pub mod whole;
 
 // What a layout over lent arrays answers: how many entries of them are in use, 0 if refused.

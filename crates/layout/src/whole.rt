@@ -1,6 +1,6 @@
 // The whole of a layout over lent arrays: the Rust's layout.
 use crate::LaidOut;
-use crate::tiles;
+use laying::tiles;
 use placing::input;
 use rules::frame::LayoutInput;
 use rules::model::TileTree;
@@ -13,7 +13,7 @@ ghost use Rattle.rules.specs.Tree.{view};
 ghost use Rattle.rules.specs.Sound.{sound};
 ghost use Rattle.rules.specs.Frame.{layoutItems};
 ghost use Rattle.rules.specs.declared.refusal.Answer.the-variants as Answers;
-ghost use Rattle.repair.specs.Whole.{arenaFrom, Plain};
+ghost use Rattle.columns.specs.Shown.{arenaFrom, Plain};
 ghost use Rattle.streaming.specs.Stream as Streams;
 ghost use Rattle.layout.specs.Whole.{LaysOut};
 
@@ -49,7 +49,7 @@ fn place(
     requires { ⌜ Plain (now heads) (now ids) (now shares) (now minima) × (sound (arenaFrom root 0 (now heads) (now ids) (now shares) (now minima)) ≡ Bool.true) ⌝ }
     ensures { λ r. ⌜ Streams.stream (now (items .exit)) (now (rects .exit)) r ≡ Streams.pushAll (layoutItems (arenaFrom root 0 (now (heads .entry)) (now (ids .entry)) (now (shares .entry)) (now (minima .entry))) input) (Streams.stream (now (items .entry)) (now (rects .entry)) 0) ⌝ }
 {
-    repair::lone::root_row(ids, root);
+    settling::lone::root_row(ids, root);
     let bounds = input.bounds;
     tiles::layout_tile(
         heads,

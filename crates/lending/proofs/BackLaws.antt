@@ -14,9 +14,9 @@ use Rattle.rules.specs.declared.model.TabBarPlacement.{TabBarPlacement}
 use Rattle.rules.specs.declared.model.TabBarPlacement.the-variants.{Hidden, Top, Bottom, Left, Right}
 use Rattle.columns.specs.Columns.{barFrom, axisFrom, nodeBy, nodeFrom, nodesFrom}
 use Rattle.columns.specs.Pack.{overKind, overOf}
-use Rattle.repair.specs.Whole.{arenaFrom}
+use Rattle.columns.specs.Shown.{arenaFrom}
 use Rattle.coding.specs.Lent.{lot, codeOk, codesOk}
-use Rattle.lending.specs.Parts.{Holds}
+use Rattle.crossing.specs.Parts.{Holds}
 use Rattle.lending.specs.Back.{fittedBy, fitted}
 use Rattle.coding.proofs.CodeLaws.{bar-ok, axis-ok}
 

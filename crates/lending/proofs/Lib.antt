@@ -1,3 +1,1 @@
-pub mod TidyLaws
-pub mod WriteLaws
 pub mod BackLaws

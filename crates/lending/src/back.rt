@@ -4,9 +4,9 @@ ghost use mathlib.Core.Path.{_≡_};
 ghost use mathlib.Core.List.{map};
 ghost use Rattle.rules.specs.Tree.{barCode, axisCode};
 ghost use Rattle.columns.specs.Columns.{barFrom, axisFrom};
-ghost use Rattle.repair.specs.Whole.{arenaFrom};
+ghost use Rattle.columns.specs.Shown.{arenaFrom};
 ghost use Rattle.coding.specs.Lent.{lot};
-ghost use Rattle.lending.specs.Parts.{Holds, Keeps};
+ghost use Rattle.crossing.specs.Parts.{Holds, Keeps};
 ghost use Rattle.lending.specs.Back.{fitted};
 
 // A group's mode: any number past 4 is read as 4.

@@ -1,8 +1,3 @@
 // What crosses the boundary: lent numbers read as an arena, an operation or an input, and answers, arenas and actions written to them.
 
-pub mod actions;
-pub mod arena;
 pub mod back;
-pub mod solving;
-pub mod tidy;
-pub mod told;

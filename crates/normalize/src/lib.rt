@@ -4,7 +4,6 @@ use sifting::Counts;
 use sifting::Kids;
 
 pub mod nodes;
-pub mod splits;
 
 // A split whose slot is claimed: its axis, its shares as given, its lists mended, and the counts.
 pub struct Opened {

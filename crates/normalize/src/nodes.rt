@@ -1,6 +1,6 @@
 // normalize_node and normalize_split: a tile's repair calls a split's repair, which calls back. Slots that are not claimed grow fewer.
 use crate::Opened;
-use crate::splits;
+use keeping::splits;
 use lists::ids as id_list;
 use melting::rows;
 use real_lists::reals;

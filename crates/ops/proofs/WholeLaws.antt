@@ -18,8 +18,8 @@ use Rattle.rules.specs.declared.refusal.Refusal.{Refusal}
 use Rattle.rules.specs.declared.refusal.Refusal.the-variants.{NotSound}
 use Rattle.columns.specs.Columns.{nodesFrom}
 use Rattle.columns.specs.Pack.{overOf, Even}
-use Rattle.repair.specs.Whole.{arenaFrom, Plain}
-use Rattle.repair.proofs.StillLaws.{plain-over, plain-long}
+use Rattle.columns.specs.Shown.{arenaFrom, Plain}
+use Rattle.settling.proofs.PlainLaws.{plain-over, plain-long}
 use Rattle.repair.proofs.SoundLaws.{sound-whole}
 use Rattle.nodes.specs.Find.{find-scan, parent-scan}
 use Rattle.docking.specs.Trees.{sound-standing}

@@ -1,8 +1,8 @@
 // What follows an operation: refusals 11 and 3 after repair, the revision, and the repair itself (the Rust's apply, 225 to 238).
 use docking::AppliedIn;
-use repair::settle;
 use rules::refusal::Answer;
 use rules::refusal::Refusal;
+use settling::settle;
 ghost use mathlib.Core.Path.{_≡_};
 ghost use mathlib.Core.Bool.{false};
 ghost use Rattle.rules.specs.Tree.{Arena};

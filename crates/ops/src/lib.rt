@@ -2,6 +2,4 @@
 // They work in place on columns that the caller lends; the call of a tree by value copies it into columns and back.
 
 pub mod finish;
-pub mod operations;
-pub mod reorder;
 pub mod whole;

@@ -1,20 +1,20 @@
 // The public call: the Rust's apply and apply_inner.
 use crate::finish;
-use crate::operations;
-use crate::reorder;
+use changing::operations;
+use changing::reorder;
 use columns::pack;
 use columns::slots;
 use columns::unpack;
 use docking::AppliedIn;
 use docking::Applying;
 use docking::Stepped;
-use repair::lone;
 use repair::whole;
 use rules::model::TileId;
 use rules::model::TileTree;
 use rules::operation::TileOp;
 use rules::refusal::Answer;
 use rules::refusal::Refusal;
+use settling::lone;
 ghost use mathlib.Core.Path.{_≡_};
 ghost use mathlib.Core.Bool.{true, false};
 ghost use Rattle.rules.specs.Tree.{Arena, view};
@@ -22,7 +22,7 @@ ghost use Rattle.rules.specs.Sound.{sound};
 ghost use Rattle.rules.specs.Operations as Rule;
 ghost use Rattle.rules.specs.declared.refusal.Refusal.{Refusal};
 ghost use Rattle.rules.specs.declared.refusal.Answer.the-variants as Answers;
-ghost use Rattle.repair.specs.Whole.{arenaFrom, Plain};
+ghost use Rattle.columns.specs.Shown.{arenaFrom, Plain};
 ghost use Rattle.docking.specs.Steps.{applied, Does, Ready, Comes};
 
 // apply_inner

@@ -29,7 +29,7 @@ use Rattle.rules.specs.declared.operation.DockTarget.{DockTarget}
 use Rattle.rules.specs.declared.operation.DockTarget.the-variants.{Root, Split, TabInto}
 use Rattle.rules.specs.declared.operation.TileOp.the-variants.{MovePane}
 use Rattle.forest.specs.Lists.{never}
-use Rattle.ops.specs.PaneTheorems.{Has}
+use Rattle.fates.specs.PaneTheorems.{Has}
 use Rattle.promises.specs.Words.{Tells, both-ways, not-means}
 use Rattle.promises.specs.Stands.{Absent, Found, nowhere-means, has-means, locate-found}
 use Rattle.promises.specs.StepNumbers.{stepTold}

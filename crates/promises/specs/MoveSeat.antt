@@ -18,7 +18,7 @@ use Rattle.forest.specs.Settled.{slots}
 use Rattle.forest.specs.Stays.{panes-full, full-inside}
 use Rattle.nodes.specs.Find.{OneTree, pane-once}
 use Rattle.docking.specs.Trees.{reading-like, sound-standing}
-use Rattle.ops.specs.Spots.{set-passes}
+use Rattle.fates.specs.Spots.{set-passes}
 use Rattle.promises.specs.Stands.{Found}
 
 slot-member : (t : TileId) (xs : List TileId) → Member (t .slot) (slots xs) → Member t xs

@@ -26,12 +26,12 @@ use Rattle.forest.specs.Grow.{tile-keeps}
 use Rattle.forest.specs.Stays.{Shown, panes-reached}
 use Rattle.nodes.specs.Find.{OneTree}
 use Rattle.docking.specs.Trees.{sound-standing}
-use Rattle.ops.specs.Theorems.{Shape, inner-shape}
-use Rattle.ops.specs.Removal.{In}
-use Rattle.ops.specs.Graft.{of}
-use Rattle.ops.specs.Fates.{Spares, Brings, Follows, Fate}
-use Rattle.ops.specs.Moves.{inner-fate}
-use Rattle.ops.specs.PaneTheorems.{Has, along-slot, occupied-met}
+use Rattle.fates.specs.Theorems.{Shape, inner-shape}
+use Rattle.fates.specs.Removal.{In}
+use Rattle.fates.specs.Graft.{of}
+use Rattle.fates.specs.Fates.{Spares, Brings, Follows, Fate}
+use Rattle.fates.specs.Moves.{inner-fate}
+use Rattle.fates.specs.PaneTheorems.{Has, along-slot, occupied-met}
 use Rattle.promises.specs.Words.{Tells}
 use Rattle.promises.specs.RepairExact.{no-room}
 use Rattle.promises.specs.Stands.{contains-means, found-any, has-means}

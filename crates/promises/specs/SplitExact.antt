@@ -27,7 +27,7 @@ use Rattle.rules.specs.declared.operation.TileOp.the-variants.{SplitPane}
 use Rattle.rules.specs.declared.refusal.Refusal.{Refusal}
 use Rattle.forest.specs.Lists.{never}
 use Rattle.forest.specs.Soundness.{tile-self}
-use Rattle.ops.specs.PaneTheorems.{Has}
+use Rattle.fates.specs.PaneTheorems.{Has}
 use Rattle.promises.specs.Words.{Tells, both-ways, pair-iff, and-iff, and-means, not-means}
 use Rattle.promises.specs.Stands.{Absent, Found, has-means, nowhere-means, locate-found, read-hangs}
 use Rattle.promises.specs.StepNumbers.{stepTold}

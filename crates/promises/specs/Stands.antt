@@ -14,7 +14,7 @@ use Rattle.rules.specs.declared.model.TabBarPlacement.{TabBarPlacement}
 use Rattle.rules.specs.declared.model.TileId.{TileId}
 use Rattle.forest.specs.Lists.{never, member-cases}
 use Rattle.forest.specs.Soundness.{tile-self}
-use Rattle.ops.specs.PaneTheorems.{Has}
+use Rattle.fates.specs.PaneTheorems.{Has}
 use Rattle.promises.specs.Words.{both-ways, not-means}
 use Rattle.promises.specs.RepairExact.{any-means}
 

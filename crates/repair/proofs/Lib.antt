@@ -1,6 +1,3 @@
-pub mod LoneLaws
-pub mod StartLaws
 pub mod StillLaws
 pub mod SoundLaws
-pub mod SettleLaws
 pub mod PackedLaws

@@ -13,12 +13,13 @@ use Rattle.rules.specs.declared.refusal.Answer.the-variants.{Accepted, Refused}
 use Rattle.rules.specs.declared.refusal.Refusal.{Refusal}
 use Rattle.columns.specs.Columns.{nodesFrom, Lists}
 use Rattle.columns.specs.Pack.{overOf, reported}
-use Rattle.repair.specs.Whole.{repaired, Columned, arenaFrom, Repairs, Returns, Packs}
-use Rattle.repair.specs.Settle.{Comes, Mends}
-use Rattle.repair.specs.declared.Settled.{Settled}
+use Rattle.columns.specs.Shown.{Columned, arenaFrom}
+use Rattle.repair.specs.Whole.{repaired, Repairs, Returns, Packs}
+use Rattle.settling.specs.Settle.{Comes, Mends}
+use Rattle.settling.specs.declared.Settled.{Settled}
 use Rattle.repair.specs.declared.Repairing.{Repairing}
-use Rattle.repair.proofs.StillLaws.{tree-shown}
-use Rattle.repair.proofs.SettleLaws.{not-both}
+use Rattle.settling.proofs.PlainLaws.{tree-shown}
+use Rattle.settling.proofs.SettleLaws.{not-both}
 
 -- ---- the packing
 

@@ -17,8 +17,8 @@ use Rattle.forest.specs.Equal.{and-both}
 use Rattle.forest.specs.SoundIs.{quiet-repair, sound-is}
 use Rattle.columns.specs.Columns.{barFrom, nodeBy, nodeFrom, nodesFrom, Slim}
 use Rattle.columns.specs.Pack.{overKind, overOf}
-use Rattle.repair.specs.Whole.{arenaFrom, Plain}
-use Rattle.repair.proofs.StillLaws.{slim-heads, plain-over, plain-long}
+use Rattle.columns.specs.Shown.{arenaFrom, Plain}
+use Rattle.settling.proofs.PlainLaws.{slim-heads, plain-over, plain-long}
 
 -- an empty slot has no list
 bare : (k : ℕ) (h xs : List ℕ) (ss ms : List Float) → isEmpty (nodeBy k h xs ss ms) ≡ true → overKind k h ≡ false

@@ -3,16 +3,7 @@ use columns::Report;
 use rules::model::TileTree;
 use rules::refusal::Answer;
 
-pub mod lone;
-pub mod settle;
 pub mod whole;
-
-// What a repair of columns came to: where it is accepted, the root after it and how many actions are listed.
-pub struct Settled {
-    pub answer: Answer,
-    pub root: u64,
-    pub count: usize,
-}
 
 // What a repair answers: the repaired tree and what was done; or the tree as given, and nothing.
 pub struct Repairing {

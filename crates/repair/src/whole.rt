@@ -1,8 +1,5 @@
 // The whole of a repair of a tree: the Rust's repair; and soundness.
 use crate::Repairing;
-use crate::Settled;
-use crate::lone;
-use crate::settle;
 use columns::pack;
 use columns::slots;
 use columns::unpack;
@@ -12,6 +9,9 @@ use rules::model::TileId;
 use rules::model::TileTree;
 use rules::refusal::Answer;
 use rules::refusal::Refusal;
+use settling::Settled;
+use settling::lone;
+use settling::settle;
 ghost use mathlib.Core.Path.{_≡_};
 ghost use Prim.Native.Nat.{ℕ};
 ghost use Rattle.rules.specs.Tree.{view};
@@ -19,8 +19,9 @@ ghost use Rattle.rules.specs.Repair as Rule;
 ghost use Rattle.rules.specs.Sound.{sound};
 ghost use Rattle.forest.specs.Still.{isStill};
 ghost use Rattle.rules.specs.declared.refusal.Answer.the-variants as Answers;
-ghost use Rattle.repair.specs.Whole.{repaired, arenaFrom, Plain, Returns, Packs};
-ghost use Rattle.repair.specs.Settle.{Left};
+ghost use Rattle.columns.specs.Shown.{arenaFrom, Plain};
+ghost use Rattle.repair.specs.Whole.{repaired, Returns, Packs};
+ghost use Rattle.settling.specs.Settle.{Left};
 
 fn refused(t: TileTree, e: Refusal) -> Repairing
     ensures { λ r. ⌜ Returns t e r ⌝ }

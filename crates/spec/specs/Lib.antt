@@ -1,4 +1,3 @@
 -- What the contracts of the spec cite, and the laws that its proofs cite.
-pub mod Draft
-pub mod DraftLaws
 pub mod Whole
+pub mod LoneLaws

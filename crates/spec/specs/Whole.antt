@@ -19,11 +19,11 @@ use Rattle.rules.specs.declared.refusal.Answer.the-variants.{Accepted, Refused}
 use Rattle.rules.specs.declared.refusal.Refusal.{Refusal}
 use Rattle.columns.specs.Columns.{nodesFrom}
 use Rattle.columns.specs.Pack.{overOf}
-use Rattle.repair.specs.Whole.{arenaFrom, Plain}
-use Rattle.repair.specs.Settle.{Mends}
-use Rattle.repair.specs.declared.Settled.{Settled}
-use Rattle.spec.specs.Draft.{draftChecked, draftNarrow, draftWithin, draftTabled, draftOf, Drafted, DraftedIn, refusedAs, BuiltIn, repairedBy, from-draft}
-use Rattle.spec.specs.DraftLaws.{built-refused}
+use Rattle.columns.specs.Shown.{arenaFrom, Plain}
+use Rattle.settling.specs.Settle.{Mends}
+use Rattle.settling.specs.declared.Settled.{Settled}
+use Rattle.drafting.specs.Draft.{draftChecked, draftNarrow, draftWithin, draftTabled, draftOf, Drafted, DraftedIn, refusedAs, BuiltIn, repairedBy, from-draft}
+use Rattle.drafting.specs.DraftLaws.{built-refused}
 
 abbrev pub toldBy : Answer → Repaired → Built
 toldBy Accepted r = record { answer = Accepted; tree = r .tree }

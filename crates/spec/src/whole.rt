@@ -1,19 +1,19 @@
 // The Rust's `from_spec` (tree.rs) whole: the spec's tree, repaired. It is made and repaired in columns, and packed at the end.
-use crate::draft::Draft;
-use crate::draft::build_into;
 use columns::pack::pack;
-use repair::settle::repair_columns;
+use drafting::draft::Draft;
+use drafting::draft::build_into;
 use rules::model::TileId;
 use rules::model::TileTree;
 use rules::refusal::Answer;
+use settling::settle::repair_columns;
 ghost use mathlib.Core.Path.{_≡_};
 ghost use mathlib.Core.List.{_∷_};
 ghost use lib.ListN.{replicate};
 ghost use Rattle.rules.specs.Tree.{arena, tile, empty, emptyGroup};
 ghost use Rattle.rules.specs.Spec.{fromSpec};
 ghost use Rattle.build.specs.Slots.{Bare};
-ghost use Rattle.repair.specs.Whole.{arenaFrom, Plain};
-ghost use Rattle.spec.specs.Draft.{Drafted, DraftedIn, BuiltIn};
+ghost use Rattle.columns.specs.Shown.{arenaFrom, Plain};
+ghost use Rattle.drafting.specs.Draft.{Drafted, DraftedIn, BuiltIn};
 ghost use Rattle.spec.specs.Whole.{builtOf};
 
 // What a spec came to in columns, and the root of its tree.

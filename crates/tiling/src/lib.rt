@@ -1,6 +1,7 @@
 // Dimbovala's public calls, with what each promises: the Rust's lib.rs. None has a precondition: each answers, or refuses with a number from document 01.
 // Each `ensures` equates what comes back with the rule of the call's name in crates/rules/specs, refusals included, for all inputs.
 use docking::Applying;
+use drafting::draft::Draft;
 use frame::Layout;
 use layout::LaidOut;
 use repair::Repairing;
@@ -9,7 +10,6 @@ use rules::model::Reals;
 use rules::model::TileTree;
 use rules::operation::TileOp;
 use rules::solving::Solution;
-use spec::draft::Draft;
 ghost use mathlib.Core.Path.{_≡_};
 ghost use mathlib.Core.Bool.{true};
 ghost use Rattle.rules.specs.Tree.{view};
@@ -22,7 +22,7 @@ ghost use Rattle.rules.specs.Solver.{viewSolution};
 ghost use Rattle.rules.specs.Solver as Solves;
 ghost use Rattle.rules.specs.declared.refusal.Refusal.{Refusal};
 ghost use Rattle.rules.specs.declared.refusal.Answer.the-variants as Answers;
-ghost use Rattle.spec.specs.Draft.{Drafted};
+ghost use Rattle.drafting.specs.Draft.{Drafted};
 ghost use Rattle.repair.specs.Whole.{repaired};
 ghost use Rattle.docking.specs.Steps.{applied};
 ghost use Rattle.layout.specs.Whole.{LaysOut};

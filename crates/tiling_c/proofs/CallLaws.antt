@@ -26,17 +26,17 @@ use Rattle.rules.specs.declared.refusal.Answer.the-variants.{Accepted, Refused}
 use Rattle.rules.specs.declared.refusal.Refusal.{Refusal}
 use Rattle.rules.specs.declared.refusal.Refusal.the-variants.{BadTable, ArenaFull, TooWide, NotSound, BadInput, InvalidTileId, InvalidPaneId, InvalidTarget, InvalidOperation, DuplicatePane, RevisionExhausted, EmptyTabs, TooFewSplitChildren, ShareCountMismatch, InvalidShare, TooManySplitConstraints, InvalidSplitConstraint, InvalidActiveTab}
 use Rattle.columns.specs.Columns.{Lists}
-use Rattle.spec.specs.Draft.{DraftedIn}
-use Rattle.repair.specs.Whole.{arenaFrom}
-use Rattle.repair.specs.Settle.{Comes}
-use Rattle.repair.specs.declared.Settled.{Settled}
+use Rattle.drafting.specs.Draft.{DraftedIn}
+use Rattle.columns.specs.Shown.{arenaFrom}
+use Rattle.settling.specs.Settle.{Comes}
+use Rattle.settling.specs.declared.Settled.{Settled}
 use Rattle.docking.specs.Steps.{Comes as Becomes}
 use Rattle.docking.specs.declared.AppliedIn.{AppliedIn}
 use Rattle.layout.specs.Whole.{LaysOut}
 use Rattle.layout.specs.declared.LaidOut.{LaidOut}
 use Rattle.solver.specs.Call.{Clear}
 use Rattle.coding.specs.Lent.{Lot, lent, lotOk, opOk, opFrom, inputFrom}
-use Rattle.lending.specs.Parts.{Tells, Holds, Keeps, Writes, Fills}
+use Rattle.crossing.specs.Parts.{Tells, Holds, Keeps, Writes, Fills}
 use Rattle.tiling_c.specs.Calls.{Builds, Mends, Repairs, soundCode, Changes, Applies, LaysInto, Solves}
 
 -- ---- the number is 0 where it is accepted, and nowhere else

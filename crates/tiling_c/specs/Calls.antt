@@ -18,7 +18,7 @@ use Rattle.rules.specs.declared.refusal.Refusal.{Refusal}
 use Rattle.columns.specs.Columns.{codeOf}
 use Rattle.layout.specs.Whole.{LaysOut}
 use Rattle.coding.specs.Lent.{Lot, lent, lotOk, opOk, opFrom, inputFrom}
-use Rattle.lending.specs.Parts.{Tells, Holds}
+use Rattle.crossing.specs.Parts.{Tells, Holds}
 
 -- ---- from_spec
 

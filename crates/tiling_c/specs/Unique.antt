@@ -6,7 +6,7 @@ use Rattle.rules.specs.Tree.{Arena}
 use Rattle.rules.specs.Repair.{Repaired}
 use Rattle.rules.specs.declared.refusal.Answer.{Answer}
 use Rattle.coding.specs.Lent.{Lot, lent}
-use Rattle.lending.specs.Parts.{Tells, Holds}
+use Rattle.crossing.specs.Parts.{Tells, Holds}
 use Rattle.tiling_c.specs.Calls.{Mends}
 
 pub tells-one : (a : Answer) (c d : ℕ) (o o′ : List ℕ) (r r′ : ℕ) → Tells a c d o r → Tells a c d o′ r′ → (r ≡ r′) × (o ≡ o′)

@@ -4,12 +4,12 @@
 // operation is refused with 5, and then nothing is written.
 use coding::codes;
 use coding::operation;
-use lending::actions;
-use lending::arena;
+use crossing::actions;
+use crossing::arena;
+use crossing::solving;
+use crossing::tidy;
+use crossing::told;
 use lending::back;
-use lending::solving;
-use lending::tidy;
-use lending::told;
 ghost use mathlib.Core.Path.{_≡_};
 ghost use Rattle.rules.specs.Sound.{sound};
 ghost use Rattle.rules.specs.Solver.{solve};
@@ -77,7 +77,7 @@ pub extern "C" fn tiling_repair(
     let mut least = *minima;
     let mut list = [[0u64; 3]; 1300];
     let words = *top;
-    let d = repair::settle::repair_columns(
+    let d = settling::settle::repair_columns(
         words[0],
         &mut plain,
         &mut rows,

@@ -1,6 +1,6 @@
 // The stored specs (docs/VECTORS.md), put to the library and compared bit for bit.
+use drafting::draft::Draft;
 use libc::STDOUT_FILENO;
-use spec::draft::Draft;
 use wire::threes::Numbers;
 ghost use Prim.Native.Nat.{_≤_};
 ghost use lib.ListN.{length};

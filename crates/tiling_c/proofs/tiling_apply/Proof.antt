@@ -3,7 +3,7 @@ use mathlib.Core.Path.{_≡_, sym, ap, _∙_}
 use mathlib.Core.Bool.{Bool, true, false, _&&_}
 use borrow.Author.Tests.{not-true, not-false}
 use Rattle.coding.specs.Lent.{lot, lent, lotOk, opOk}
-use Rattle.lending.proofs.TidyLaws.{tidy-lent, tidy-plain}
+use Rattle.crossing.proofs.TidyLaws.{tidy-lent, tidy-plain}
 use Rattle.tiling_c.proofs.CallLaws.{applies-bad, applies-good}
 use borrow.Author.Needs.{needs}
 use Rattle.tiling_c.proofs.tiling_apply.Statement.{statement}

@@ -6,7 +6,7 @@ use borrow.Author.Tests.{not-true, not-false}
 use Rattle.coding.specs.Lent.{lot, lent, codesOk}
 use Rattle.rules.specs.Sound.{sound}
 use Rattle.tiling_c.proofs.CallLaws.{sound-bad, sound-is}
-use Rattle.lending.proofs.TidyLaws.{tidy-lent, tidy-plain}
+use Rattle.crossing.proofs.TidyLaws.{tidy-lent, tidy-plain}
 use borrow.Author.Needs.{needs}
 use Rattle.tiling_c.proofs.tiling_is_sound.Statement.{statement}
 use Rattle.tiling_c.proofs.tiling_is_sound.Tie as tie

@@ -3,7 +3,7 @@ use mathlib.Core.Path.{sym, _∙_}
 use borrow.Author.Tests.{not-true, not-false}
 use Rattle.coding.specs.Lent.{lot, lent}
 use Rattle.tiling_c.proofs.CallLaws.{lays-bad, lays-good}
-use Rattle.lending.proofs.TidyLaws.{tidy-lent, tidy-plain}
+use Rattle.crossing.proofs.TidyLaws.{tidy-lent, tidy-plain}
 use borrow.Author.Needs.{needs}
 use Rattle.tiling_c.proofs.tiling_layout_into.Statement.{statement}
 use Rattle.tiling_c.proofs.tiling_layout_into.Tie as tie

@@ -3,7 +3,7 @@ use mathlib.Core.Path.{sym, _∙_}
 use lib.ListN.{getD}
 use borrow.Author.Tests.{not-true, not-false}
 use Rattle.coding.specs.Lent.{lot, lent}
-use Rattle.lending.proofs.TidyLaws.{tidy-lent, tidy-plain}
+use Rattle.crossing.proofs.TidyLaws.{tidy-lent, tidy-plain}
 use Rattle.tiling_c.proofs.CallLaws.{repairs-bad, repairs-good}
 use borrow.Author.Needs.{needs}
 use Rattle.tiling_c.proofs.tiling_repair.Statement.{statement}

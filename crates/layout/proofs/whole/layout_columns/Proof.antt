@@ -1,8 +1,8 @@
 -- `layout::whole::layout_columns`: refused, or the items of the rule. Assumes nothing.
 use mathlib.Core.Path.{sym, _∙_}
 use borrow.Author.Tests.{not-true, not-false}
-use Rattle.repair.specs.Whole.{arenaFrom}
-use Rattle.repair.proofs.StillLaws.{plain-long}
+use Rattle.columns.specs.Shown.{arenaFrom}
+use Rattle.settling.proofs.PlainLaws.{plain-long}
 use Rattle.layout.proofs.WholeLaws.{not-sound, bad-input, accepted}
 use borrow.Author.Needs.{needs}
 use Rattle.layout.proofs.whole.layout_columns.Statement.{statement}

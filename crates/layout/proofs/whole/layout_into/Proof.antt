@@ -1,6 +1,6 @@
 -- `layout::whole::layout_into`: the layout of the tree's columns. Assumes nothing.
-use Rattle.repair.specs.Whole.{Columned}
-use Rattle.repair.proofs.StillLaws.{tree-plain, tree-shown}
+use Rattle.columns.specs.Shown.{Columned}
+use Rattle.settling.proofs.PlainLaws.{tree-plain, tree-shown}
 use Rattle.layout.proofs.WholeLaws.{lays-alike}
 use borrow.Author.Needs.{needs}
 use Rattle.layout.proofs.whole.layout_into.Statement.{statement}

@@ -31,8 +31,8 @@ use Rattle.normalize.proofs.nodes.is_wide.Reads as is-wide-reads
 use Rattle.normalize.proofs.nodes.measured.Reads as measured-reads
 use Rattle.normalize.proofs.nodes.none.Reads as none-reads
 use Rattle.normalize.proofs.nodes.open_split.Reads as open-split-reads
-use Rattle.normalize.proofs.splits.place.Reads as place-reads
-use Rattle.normalize.proofs.splits.split_done.Reads as split-done-reads
+use Rattle.keeping.proofs.splits.place.Reads as place-reads
+use Rattle.keeping.proofs.splits.split_done.Reads as split-done-reads
 use Rattle.normalize.proofs.nodes.+normalize_node+normalize_split.{statement}
 use Rattle.normalize.proofs.nodes.+normalize_node+normalize_split.Tie.{close}
 

@@ -1,8 +1,8 @@
 -- `ops::whole::apply` applies the operation to columns of the tree, and packs them where they changed. Assumes nothing.
 use mathlib.Core.Path.{refl}
 use borrow.Author.Tests.{not-true, not-false}
-use Rattle.repair.specs.Whole.{Columned}
-use Rattle.repair.proofs.StillLaws.{tree-plain, tree-shown}
+use Rattle.columns.specs.Shown.{Columned}
+use Rattle.settling.proofs.PlainLaws.{tree-plain, tree-shown}
 use Rattle.ops.proofs.WholeLaws.{given-applies, new-applies}
 use borrow.Author.Needs.{needs}
 use Rattle.ops.proofs.whole.apply.Statement.{statement}

@@ -2,8 +2,8 @@
 use mathlib.Core.Path.{refl, sym, _∙_}
 use borrow.Author.Tests.{not-true, not-false}
 use Rattle.rules.specs.Operations.{applyInner}
-use Rattle.repair.specs.Whole.{arenaFrom}
-use Rattle.ops.proofs.OpLaws.{steps-told}
+use Rattle.columns.specs.Shown.{arenaFrom}
+use Rattle.changing.proofs.OpLaws.{steps-told}
 use Rattle.ops.proofs.WholeLaws.{sound-ready, unsound-ends, refused-ends, changed-ends, same-ends}
 use borrow.Author.Needs.{needs}
 use Rattle.ops.proofs.whole.apply_columns.Statement.{statement}

@@ -1,8 +1,8 @@
 -- `ops::whole::apply_inner` goes by the operation. Assumes nothing.
 use mathlib.Core.Path.{ap}
 use Rattle.rules.specs.Operations.{applyInner}
-use Rattle.repair.specs.Whole.{arenaFrom}
-use Rattle.ops.proofs.OpLaws.{steps-like}
+use Rattle.columns.specs.Shown.{arenaFrom}
+use Rattle.changing.proofs.OpLaws.{steps-like}
 use borrow.Author.Needs.{needs}
 use Rattle.ops.proofs.whole.apply_inner.Statement.{statement}
 use Rattle.ops.proofs.whole.apply_inner.Tie as tie

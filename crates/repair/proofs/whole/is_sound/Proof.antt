@@ -1,8 +1,8 @@
 -- `repair::whole::is_sound` meets its contract: soundness of the tree's columns. Assumes nothing.
 use mathlib.Core.Path.{ap, _∙_}
 use Rattle.rules.specs.Sound.{sound}
-use Rattle.repair.specs.Whole.{Columned}
-use Rattle.repair.proofs.StillLaws.{tree-plain, tree-shown}
+use Rattle.columns.specs.Shown.{Columned}
+use Rattle.settling.proofs.PlainLaws.{tree-plain, tree-shown}
 use borrow.Author.Needs.{needs}
 use Rattle.repair.proofs.whole.is_sound.Statement.{statement}
 use Rattle.repair.proofs.whole.is_sound.Tie as tie

@@ -1,6 +1,7 @@
 -- `repair::whole::is_still` meets its contract: a list given too long is refused, and else the walk that only reads tells. Assumes nothing.
 use mathlib.Core.Path.{sym, _∙_}
-use Rattle.repair.proofs.StillLaws.{slim-heads, over-still, calm-tells}
+use Rattle.settling.proofs.PlainLaws.{slim-heads}
+use Rattle.repair.proofs.StillLaws.{over-still, calm-tells}
 use borrow.Author.Needs.{needs}
 use Rattle.repair.proofs.whole.is_still.Statement.{statement}
 use Rattle.repair.proofs.whole.is_still.Tie as tie

@@ -1,6 +1,6 @@
 -- `repair::whole::repair` meets its contract: the columns are repaired, and packed. Assumes nothing.
-use Rattle.repair.specs.Whole.{Columned}
-use Rattle.repair.proofs.StillLaws.{tree-plain}
+use Rattle.columns.specs.Shown.{Columned}
+use Rattle.settling.proofs.PlainLaws.{tree-plain}
 use Rattle.repair.proofs.PackedLaws.{packed-repairs}
 use borrow.Author.Needs.{needs}
 use Rattle.repair.proofs.whole.repair.Statement.{statement}

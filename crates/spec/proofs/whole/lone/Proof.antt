@@ -1,6 +1,6 @@
 -- `spec::whole::lone`: columns of zeros but for one head. Assumes nothing.
 use borrow.Author.Needs.{needs}
-use Rattle.spec.specs.DraftLaws.{lone-shown}
+use Rattle.spec.specs.LoneLaws.{lone-shown}
 use Rattle.spec.proofs.whole.lone.Statement.{statement}
 use Rattle.spec.proofs.whole.lone.Tie as tie
 

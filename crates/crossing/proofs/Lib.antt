@@ -1,0 +1,2 @@
+pub mod TidyLaws
+pub mod WriteLaws

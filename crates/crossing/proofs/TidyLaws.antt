@@ -1,0 +1,66 @@
+-- Laws of tidied heads: they show the same arena, and a length over 16 stands only where it counts. Assumes nothing.
+use mathlib.Core.Path.{_≡_, refl, sym, ap, _∙_}
+use mathlib.Core.Bool.{_||_, false, or-false}
+use mathlib.Core.List.{List, [], _∷_, map}
+use Prim.Native.Nat.{ℕ, zero, suc}
+use lib.Dec.{ltb}
+use lib.ListN.{length, getD, length-map}
+use lib.Ieee.{Float}
+use Rattle.rules.specs.Lists.{anyOf}
+use Rattle.rules.specs.Tree.{tile}
+use Rattle.columns.specs.Columns.{nodeBy, nodeFrom, nodesFrom}
+use Rattle.columns.specs.Pack.{overHead, overKind, overOf}
+use Rattle.columns.specs.Shown.{Plain}
+use Rattle.coding.specs.Lent.{lot, lent, tidiedBy, tidied}
+
+pub tidied-split : (k : ℕ) (h : List ℕ) → (k ≡ 0 → ⊥) → (k ≡ 1 → ⊥) → (k ≡ 2 → ⊥) → h ≡ tidiedBy k h
+tidied-split zero h a b c = absurd (a refl)
+tidied-split (suc zero) h a b c = absurd (b refl)
+tidied-split (suc (suc zero)) h a b c = absurd (c refl)
+tidied-split (suc (suc (suc k))) h a b c = refl
+
+module _ (h : List ℕ) where
+  node-tidy : (k : ℕ) → getD h 0 0 ≡ k → (xs : List ℕ) (ss ms : List Float) → nodeFrom (tidiedBy k h) xs ss ms ≡ nodeBy k h xs ss ms
+  node-tidy zero e xs ss ms = refl
+  node-tidy (suc zero) e xs ss ms = refl
+  node-tidy (suc (suc zero)) e xs ss ms = refl
+  node-tidy (suc (suc (suc k))) e xs ss ms = ap (λ (j : ℕ). nodeBy j h xs ss ms) e
+
+  over-tidy : (k : ℕ) → getD h 0 0 ≡ k → overOf (tidiedBy k h) ≡ overKind k h
+  over-tidy zero e = refl
+  over-tidy (suc zero) e = refl
+  over-tidy (suc (suc zero)) e = refl
+  over-tidy (suc (suc (suc k))) e = ap (λ (j : ℕ). overKind j h) e
+
+  plain-tidy : (k : ℕ) → getD h 0 0 ≡ k → overHead (tidiedBy k h) ≡ overOf (tidiedBy k h)
+  plain-tidy zero e = refl
+  plain-tidy (suc zero) e = refl
+  plain-tidy (suc (suc zero)) e = or-false (ltb 16 (getD h 4 0) || false) ∙ or-false (ltb 16 (getD h 4 0))
+  plain-tidy (suc (suc (suc k))) e = ap (λ (j : ℕ). overKind j h) (sym e)
+
+nodes-tidy : (hs xs : List (List ℕ)) (ss ms : List (List Float)) → nodesFrom (map tidied hs) xs ss ms ≡ nodesFrom hs xs ss ms
+unfolding nodesFrom
+nodes-tidy [] xs ss ms = refl
+nodes-tidy (h ∷ hs) [] ss ms = refl
+nodes-tidy (h ∷ hs) (x ∷ xs) [] ms = refl
+nodes-tidy (h ∷ hs) (x ∷ xs) (s ∷ ss) [] = refl
+nodes-tidy (h ∷ hs) (x ∷ xs) (s ∷ ss) (m ∷ ms) = λ z. node-tidy h (getD h 0 0) refl x s m z ∷ nodes-tidy hs xs ss ms z
+
+overs-tidy : (hs : List (List ℕ)) → anyOf overOf (map tidied hs) ≡ anyOf overOf hs
+unfolding anyOf
+overs-tidy [] = refl
+overs-tidy (h ∷ hs) = λ z. over-tidy h (getD h 0 0) refl z || overs-tidy hs z
+
+unused-tidy : (hs : List (List ℕ)) → map overHead (map tidied hs) ≡ map overOf (map tidied hs)
+unused-tidy [] = refl
+unused-tidy (h ∷ hs) = λ z. plain-tidy h (getD h 0 0) refl z ∷ unused-tidy hs z
+
+module _ (hs hs′ xs : List (List ℕ)) (ss ms : List (List Float)) (e : hs′ ≡ map tidied hs) where
+  pub tidy-lent : (top : List ℕ) → lent (lot top hs′ xs ss ms) ≡ lent (lot top hs xs ss ms)
+  tidy-lent top =
+      let nodes = ap (λ (l : List (List ℕ)). nodesFrom l xs ss ms) e ∙ nodes-tidy hs xs ss ms in
+      let over = ap (anyOf overOf) e ∙ overs-tidy hs in
+      λ z. record { root = tile (getD top 0 0); revision = getD top 1 0; nodes = nodes z; over = over z }
+
+  pub tidy-plain : (length hs ≡ 64) × (length xs ≡ 64) × (length ss ≡ 64) × (length ms ≡ 64) → Plain hs′ xs ss ms
+  tidy-plain (a, b, c, d) = record { heads = ap length e ∙ length-map hs tidied ∙ a; ids = b; shares = c; minima = d; unused = ap (map overHead) e ∙ unused-tidy hs ∙ sym (ap (map overOf) e) }

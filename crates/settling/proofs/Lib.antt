@@ -1,0 +1,4 @@
+pub mod LoneLaws
+pub mod StartLaws
+pub mod PlainLaws
+pub mod SettleLaws
