@@ -1,3 +1,3 @@
-// The walk of a layout (the Rust's layout_tile and layout_split, layout.rs), over lent columns.
+// The walk of a layout (the Rust's layout_tile, layout_tabs and layout_split, tree.rs), over lent columns.
 
 pub mod tiles;
