@@ -13,7 +13,7 @@ use Rattle.rules.specs.Tree.{Node, split, tile}
 use Rattle.rules.specs.Table.{Row, paneRow, tabsRow, splitRow, childrenUsed}
 use Rattle.rules.specs.Spec.{Left, after, rowShares, rowMinima, wideRow, build, pushSpec}
 use Rattle.reader.specs.Bytes.{inner}
-use Rattle.checks.specs.CheckLaws.{or-left, or-right}
+use Rattle.forest.specs.Bools.{or-left, or-right}
 use Rattle.build.specs.Push.{rowNode, nodesFrom, leftOver, Pushed}
 
 pub slice-join : {A : Type 0} (a b c : ℕ) (l : List A) → a ≤ b → b ≤ c → slice a c l ≡ slice a b l ++ slice b c l

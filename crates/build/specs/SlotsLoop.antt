@@ -31,7 +31,7 @@ use Rattle.checks.specs.Checks.{leftAt}
 use Rattle.checks.specs.Walk.{Along, along-start, along-more, left-after}
 use Rattle.build.specs.Push.{rowNode, nodesFrom}
 use Rattle.build.specs.PushLaws.{length-nodes}
-use Rattle.checks.specs.CheckLaws.{or-left, or-right}
+use Rattle.forest.specs.Bools.{or-left, or-right}
 use Rattle.build.specs.Slots.{SlotIs, Fit, Slotted, Bare, ColumnsAre}
 use Rattle.table.specs.declared.sections.Places.{Places}
 

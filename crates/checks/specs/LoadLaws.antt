@@ -15,7 +15,7 @@ use Rattle.reader.specs.Bytes.{inner}
 use Rattle.table.specs.Rows.{rowFrom, panesAt, tableOf, Used}
 use Rattle.checks.specs.Entries.{length-entries}
 use Rattle.checks.specs.Checks.{Loaded}
-use Rattle.checks.specs.CheckLaws.{or-left, or-right}
+use Rattle.forest.specs.Bools.{or-left, or-right}
 use Rattle.table.specs.declared.sections.Places.{Places}
 
 -- j of the panes are loaded

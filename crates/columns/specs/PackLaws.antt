@@ -32,6 +32,7 @@ use Rattle.columns.specs.Pack.{headBy, headOf, slotOf, idsBy, idsOf, sha
 use Rattle.columns.specs.declared.Listed.{Listed}
 use Rattle.columns.specs.ColumnLaws.{nodes-long, nodes-at, split-of}
 use Rattle.columns.specs.OverLaws.{over-split, any-alike}
+use Rattle.forest.specs.Bools.{or-left, or-right}
 
 -- ---- a loop that fills an array from the front with the entries of another list
 
@@ -132,17 +133,6 @@ unpacked [] = refl
 unpacked (s ∷ ss) = λ z. node-back (s .kind) s z ∷ unpacked ss z
 
 -- no list too long was given
-pub or-left : (a b : Bool) → (a || b) ≡ false → a ≡ false
-or-left true b e = e
-or-left false b e = refl
-
-pub or-right : (a b : Bool) → (a || b) ≡ false → b ≡ false
-or-right true b e = absurd (no e)
-  where
-    no : true ≡ false → ⊥
-    no q = let z : _≡_ {A = ℕ} 0 1 = cc in omega arith
-or-right false b e = e
-
 slim-one : (k : Kind) (s : Slot) → overBy k s ≡ false → Slim (headBy k s)
 slim-one Empty s e = (omega arith, omega arith, omega arith)
 slim-one (Pane p) s e = (omega arith, omega arith, omega arith)

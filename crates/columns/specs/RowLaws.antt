@@ -12,7 +12,8 @@ use Rattle.rules.specs.declared.model.Slot.{Slot}
 use Rattle.columns.specs.Columns.{nodesFrom}
 use Rattle.columns.specs.Pack.{headOf, idsOf, sharesOf, minimaOf, Puts, overHead, overKind, overOf, Even}
 use Rattle.columns.specs.ColumnLaws.{nodes-long, nodes-set}
-use Rattle.columns.specs.PackLaws.{node-back, over-head, or-left, or-right}
+use Rattle.columns.specs.PackLaws.{node-back, over-head}
+use Rattle.forest.specs.Bools.{or-left, or-right}
 
 -- ---- heads of 16 at most
 

@@ -25,7 +25,7 @@ use Rattle.columns.specs.Columns.{nodeBy, nodesFrom}
 use Rattle.columns.specs.Pack.{firstOf, overHead, overOf, Even}
 use Rattle.columns.specs.RowLaws.{even-head, even-row}
 use Rattle.columns.specs.Shown.{arenaFrom, Plain}
-use Rattle.nodes.proofs.SlotLaws.{or-left, or-right}
+use Rattle.forest.specs.Bools.{or-left, or-right}
 use Rattle.docking.specs.Steps.{Makes, Comes}
 use Rattle.docking.specs.declared.AppliedIn.{AppliedIn}
 

@@ -1,29 +1,30 @@
 -- How many actions a repair lists: for each tile that is claimed at most 19, for a root that is no good 1, and in the sweep one for each slot.
 -- A split's own are at most 3, and one more where it is melted; each of its 16 children costs one at most beside what the child's own tiles cost. Assumes nothing.
-use mathlib.Core.Path.{_≡_, refl, sym, ap, subst, _∙_}
+use mathlib.Core.Path.{_≡_, refl, ap, _∙_}
 use mathlib.Core.Bool.{Bool, true, false, not, _||_}
-use mathlib.Core.List.{List, [], _∷_, _++_}
+use mathlib.Core.List.{List, [], _∷_}
 use mathlib.Core.Option.{Option, none, some}
 use Prim.Native.Nat.{ℕ, zero, suc, _+_, _*_, _≤_, _<_}
 use native.Mathlib.Omega.{arith}
 use borrow.Author.Tests.{leb-false, ltb-false}
 use lib.Dec.{leb, eqb}
-use lib.ListN.{length, getD, getElem?, set, length-set, length-append, replicate}
+use lib.ListN.{length, getD, getElem?, length-set, length-append}
 use lib.Ieee.{Float}
 use Rattle.rules.specs.Lists.{anyOf, contains, wideList}
 use Rattle.rules.specs.Tree.{Node, empty, pane, tabs, split, tile, nodeAt, wideNode, isEmpty, readingFrom, emptyGroup, setNode}
 use Rattle.rules.specs.Shares.{repairedShares, eqReals}
 use Rattle.rules.specs.Minima.{alignedConstraints, compactConstraints}
-use Rattle.rules.specs.Repair.{addedBy, added, addedIf, sameAction, State, Work, Out, work, note, claim, paneBy, Sifted, sifted, siftBy, retain, activeOf, groupLeft, groupStep, gone, Entry, entries, sharesOf, Run, run, melts, placeBy, place, placeOut, kidsFrom, splitLeft, splitDone, splitNoted, splitStep, byNode, byClaimed, byRange, tileStep, normalizeNode, isReached, sweepNote, sweepActions, Normal, rooted, begin, normalize}
+use Rattle.rules.specs.Repair.{addedBy, added, addedIf, sameAction, State, Work, Out, work, claim, paneBy, Sifted, sifted, siftBy, retain, activeOf, groupLeft, groupStep, gone, Entry, entries, sharesOf, Run, run, melts, placeBy, place, placeOut, kidsFrom, splitLeft, splitNoted, splitStep, byNode, byClaimed, byRange, tileStep, normalizeNode, isReached, sweepNote, sweepActions, Normal, rooted, begin, normalize}
 use Rattle.rules.specs.declared.model.TileId.{TileId}
 use Rattle.rules.specs.declared.model.Axis.{Axis}
 use Rattle.rules.specs.declared.model.TabBarPlacement.{TabBarPlacement}
 use Rattle.rules.specs.declared.model.RepairAction.{RepairAction}
 use Rattle.rules.specs.declared.model.RepairAction.the-variants.{RemovedInvalidNode, RepairedActiveTab, RepairedShares, RepairedConstraints, CollapsedSplit, RemovedDuplicatePane}
-use Rattle.forest.specs.Lists.{All, never, set-back, free, free-set}
+use Rattle.forest.specs.Lists.{All, set-back, free, free-set}
 use Rattle.forest.specs.Codec.{Least, start-least}
-use Rattle.forest.specs.Forest.{Forest, tiles}
-use Rattle.forest.specs.Grow.{Good, Grown, Left, stem, Works, retained, back, good-after, kid-keeps, tile-keeps}
+use Rattle.forest.specs.Forest.{Forest}
+use Rattle.forest.specs.Grow.{Good, Grown, Works, retained, back, good-after, kid-keeps, tile-keeps}
+use Rattle.forest.specs.Bools.{or-left, or-right}
 
 -- ---- one action
 
@@ -49,10 +50,6 @@ narrow-after w v f G n j e = ap wideNode (G .still j e) ∙ n j (back w v f G j 
 
 narrow-list : {A : Type 0} (xs : List A) → wideList xs ≡ false → length xs ≤ 16
 narrow-list xs e = ltb-false 16 (length xs) e
-
-or-left : (a b : Bool) → (a || b) ≡ false → a ≡ false
-or-left true b e = e
-or-left false b e = refl
 
 -- ---- the account: a tile that is kept may yet be melted, which costs one more
 
@@ -209,10 +206,6 @@ unfolding anyOf
 all-narrow [] e j = refl
 all-narrow (x ∷ xs) e zero = or-left (wideNode x) (anyOf wideNode xs) e
 all-narrow (x ∷ xs) e (suc j) = all-narrow xs (or-right (wideNode x) (anyOf wideNode xs) e) j
-  where
-    or-right : (a b : Bool) → (a || b) ≡ false → b ≡ false
-    or-right true b q = never q
-    or-right false b q = q
 
 module _ (ns : List Node) (size : length ns ≡ 64) (narrow : anyOf wideNode ns ≡ false) (r : TileId) where
   abbrev o : Out

@@ -1,4 +1,5 @@
 pub mod Lists
+pub mod Bools
 pub mod Mended
 pub mod Codec
 pub mod Forest

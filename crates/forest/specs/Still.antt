@@ -15,8 +15,7 @@ use Rattle.rules.specs.declared.model.RepairAction.{RepairAction}
 use Rattle.rules.specs.declared.model.RepairAction.the-variants.{RemovedInvalidNode}
 use Rattle.forest.specs.Quiet.{walk-hushed}
 use Rattle.forest.specs.Sweep.{actionsBy}
-use Rattle.forest.specs.Wide.{Swollen}
-use Rattle.forest.specs.Finish.{repair-whole, normalized-kept, normalized-wide}
+use Rattle.forest.specs.Finish.{repair-whole, normalized-kept}
 
 -- every node is claimed or empty
 unfoldable pub noneLost : List Bool → List Node → Bool
@@ -81,10 +80,6 @@ module _ (a : Arena) (size : length (a .nodes) ≡ 64) (whole : a .over ≡ fals
   pub still-kept : (s : TileId) → o .kept ≡ some s → anyOf wideNode (left .state .nodes) ≡ false
       → isStill (repair a) ≡ (isNone (left .actions) && noneLost (left .state .claimed) (left .state .nodes))
   still-kept s k e = ap isStill (repair-whole a whole ∙ normalized-kept a size free s k e) ∙ actions-none 0 (left .state .claimed) (left .state .nodes) (left .actions)
-
-  -- a list passed 16
-  pub still-wide : Swollen (begin (a .nodes) .state) o → isStill (repair a) ≡ false
-  still-wide s = ap isStill (repair-whole a whole ∙ normalized-wide a size free s)
 
   some-done : o .kept ≡ none → isNone (left .actions) ≡ false
   some-done k = go (left .actions) refl

@@ -3,9 +3,9 @@
 use mathlib.Core.Path.{_≡_, refl, sym, ap, subst, _∙_}
 use mathlib.Core.Logic.{_⊎_, inl, inr}
 use mathlib.Core.Bool.{Bool, true, false, _||_}
-use mathlib.Core.List.{List, [], _∷_, _++_, map, append-assoc}
+use mathlib.Core.List.{List, [], _∷_, _++_}
 use mathlib.Core.Option.{Option, none, some}
-use Prim.Native.Nat.{ℕ, zero, suc, _+_, _≤_, _<_}
+use Prim.Native.Nat.{ℕ, zero, suc, _+_, _<_}
 use native.Mathlib.Omega.{arith}
 use borrow.Author.Tests.{lt-ltb, ltb-true}
 use lib.Dec.{ltb}
@@ -13,29 +13,23 @@ use lib.ListN.{length, getD, length-append, length-map}
 use lib.Ieee.{Float}
 use Rattle.rules.specs.Lists.{anyOf, wideList}
 use Rattle.rules.specs.Numbers.{zero-f}
-use Rattle.rules.specs.Tree.{Node, empty, nodeAt, wideNode}
+use Rattle.rules.specs.Tree.{Node, empty, wideNode}
 use Rattle.rules.specs.Shares.{fixShare}
 use Rattle.rules.specs.Repair.{State, Work, Out, Entry, Run, run, place, placeOut, kidsFrom, childrenOf, splitDone, Normal, rooted, begin, normalizeNode, normalize, sweep}
 use Rattle.rules.specs.declared.model.TileId.{TileId}
 use Rattle.rules.specs.declared.model.Axis.{Axis}
 use Rattle.forest.specs.Lists.{All, never, all-map, all-append}
-use Rattle.forest.specs.Codec.{stored, reshared, Least, long-children}
+use Rattle.forest.specs.Codec.{reshared, Least, long-children}
 use Rattle.forest.specs.Forest.{Forest, nil, leaf, node, roots, tiles, _⧺_, reshare, wide, broad, wide-append, wide-reshare, Set, Holds, Same, roots-append, roots-reshare, all-roots, set-same}
-use Rattle.forest.specs.Grow.{Good, Grown, Left, nothing, group, branch, keptOf, stem, Keeps, Works, Placed, placed, grown-none, grown-chain, good-after, kid-keeps, kids-keep, claimed, split-run, grown-own, grown-like, grown-many, tile-keeps}
-use Rattle.forest.specs.Settled.{Tidy, Settled, tidied}
+use Rattle.forest.specs.Grow.{Good, Grown, Left, nothing, group, branch, keptOf, stem, Works, placed, grown-none, grown-chain, good-after, kid-keeps, kids-keep, claimed, grown-own, grown-like, grown-many}
+use Rattle.forest.specs.Settled.{tidied}
+use Rattle.forest.specs.Bools.{true-left, true-right}
 
 -- ---- tests
 
 or-either : (a b : Bool) → (a || b) ≡ true → (a ≡ true) ⊎ (b ≡ true)
 or-either true b e = inl refl
 or-either false b e = inr e
-
-or-left : (a b : Bool) → a ≡ true → (a || b) ≡ true
-or-left a b e = ap (λ (c : Bool). c || b) e
-
-or-right : (a b : Bool) → b ≡ true → (a || b) ≡ true
-or-right true b e = refl
-or-right false b e = e
 
 -- ---- a tile whose repair leaves too wide a list
 
@@ -51,18 +45,18 @@ broad-append f g e = go (or-either (ltb 16 (length (roots f))) (wide f) e)
   where
     go : (ltb 16 (length (roots f)) ≡ true) ⊎ (wide f ≡ true) → broad (f ⧺ g) ≡ true
     go (inl q) =
-        or-left (ltb 16 (length (roots (f ⧺ g)))) (wide (f ⧺ g))
+        true-left (ltb 16 (length (roots (f ⧺ g)))) (wide (f ⧺ g))
         (lt-ltb 16 (length (roots (f ⧺ g))) (omega (arith, ltb-true 16 (length (roots f)) q, ap length (roots-append f g), length-append (roots f) (roots g))))
-    go (inr q) = or-right (ltb 16 (length (roots (f ⧺ g)))) (wide (f ⧺ g)) (wide-append f g ∙ or-left (wide f) (wide g) q)
+    go (inr q) = true-right (ltb 16 (length (roots (f ⧺ g)))) (wide (f ⧺ g)) (wide-append f g ∙ true-left (wide f) (wide g) q)
 
 broad-after : (f g : Forest) → broad g ≡ true → broad (f ⧺ g) ≡ true
 broad-after f g e = go (or-either (ltb 16 (length (roots g))) (wide g) e)
   where
     go : (ltb 16 (length (roots g)) ≡ true) ⊎ (wide g ≡ true) → broad (f ⧺ g) ≡ true
     go (inl q) =
-        or-left (ltb 16 (length (roots (f ⧺ g)))) (wide (f ⧺ g))
+        true-left (ltb 16 (length (roots (f ⧺ g)))) (wide (f ⧺ g))
         (lt-ltb 16 (length (roots (f ⧺ g))) (omega (arith, ltb-true 16 (length (roots g)) q, ap length (roots-append f g), length-append (roots f) (roots g))))
-    go (inr q) = or-right (ltb 16 (length (roots (f ⧺ g)))) (wide (f ⧺ g)) (wide-append f g ∙ or-right (wide f) (wide g) q)
+    go (inr q) = true-right (ltb 16 (length (roots (f ⧺ g)))) (wide (f ⧺ g)) (wide-append f g ∙ true-right (wide f) (wide g) q)
 
 -- ---- it goes on to the end of the children
 
@@ -116,14 +110,14 @@ module _ (again : TileId → Work → Out) (g : Works again) (a : Axis) (w : Sta
 
   -- so does a list that passes 16
   pub long-bulge : (r : Run) → Before w a r → 16 < length (r .list) → Bulging w a r
-  long-bulge r (f, p, B, s) h = (f, p, B, s, or-left (ltb 16 (length (roots f))) (wide f) (lt-ltb 16 (length (roots f)) (omega (arith, ap length p))))
+  long-bulge r (f, p, B, s) h = (f, p, B, s, true-left (ltb 16 (length (roots f))) (wide f) (lt-ltb 16 (length (roots f)) (omega (arith, ap length p))))
 
 -- ---- and the split is swollen
 
 module _ (w : State) (good : Good w) (i : TileId) (h : i .slot < 64) (e : getD (w .claimed) (i .slot) false ≡ false) (a : Axis) where
   many-wide : (f : Forest) → broad f ≡ true → wide (node i zero-f zero-f a (reshare fixShare f) nil) ≡ true
   many-wide f q =
-      or-left (broad (reshare fixShare f)) false
+      true-left (broad (reshare fixShare f)) false
       ((λ z. ltb 16 (length (roots-reshare fixShare f z)) || wide-reshare fixShare f z) ∙ ap (λ (n : ℕ). ltb 16 n || wide f) (length-map (roots f) (reshared fixShare)) ∙ q)
 
   swell : (u : Work) (old : List Float) (b : Bool) (f : Forest) → Grown (claimed w good i h e) (u .state) f → All (Set (u .state .nodes) a) (roots f) → broad f ≡ true
@@ -149,8 +143,8 @@ module _ (w : State) (good : Good w) (i : TileId) (h : i .slot < 64) (e : getD (
 any-at : (ns : List Node) (i : ℕ) → wideNode (getD ns i empty) ≡ true → anyOf wideNode ns ≡ true
 unfolding anyOf
 any-at [] i e = never (sym e)
-any-at (n ∷ ns) zero e = or-left (wideNode n) (anyOf wideNode ns) e
-any-at (n ∷ ns) (suc i) e = or-right (wideNode n) (anyOf wideNode ns) (any-at ns i e)
+any-at (n ∷ ns) zero e = true-left (wideNode n) (anyOf wideNode ns) e
+any-at (n ∷ ns) (suc i) e = true-right (wideNode n) (anyOf wideNode ns) (any-at ns i e)
 
 wide-held : (ns : List Node) (f : Forest) → Holds ns f → wide f ≡ true → anyOf wideNode ns ≡ true
 wide-held ns nil h q = never (sym q)
@@ -159,7 +153,7 @@ wide-held ns (node i _ _ a c r) h q =
     go (or-either (ltb 16 (length (roots c)) || wide c) (wide r) q) (wide-held ns c (h .1)) (wide-held ns r (h .2))
   where
     here : ltb 16 (length (roots c)) ≡ true → wideNode (getD ns (i .slot) empty) ≡ true
-    here k = ap wideNode (h .0 .is) ∙ or-left (wideList (childrenOf (roots c)) || _) _ (or-left (wideList (childrenOf (roots c))) _ (ap (ltb 16) (long-children (roots c)) ∙ k))
+    here k = ap wideNode (h .0 .is) ∙ true-left (wideList (childrenOf (roots c)) || _) _ (true-left (wideList (childrenOf (roots c))) _ (ap (ltb 16) (long-children (roots c)) ∙ k))
 
     go : ((ltb 16 (length (roots c)) || wide c) ≡ true) ⊎ (wide r ≡ true) → (wide c ≡ true → anyOf wideNode ns ≡ true) → (wide r ≡ true → anyOf wideNode ns ≡ true) → anyOf wideNode ns ≡ true
     go (inl k) f g = under (or-either (ltb 16 (length (roots c))) (wide c) k)

@@ -28,7 +28,7 @@ use Rattle.forest.specs.Lists.{All, all-append}
 use Rattle.number.specs.Each as Each
 use Rattle.number.specs.Order.{nonneg}
 use Rattle.solver.specs.Demand.{Meets}
-use Rattle.frames.specs.Fits.{or-left}
+use Rattle.forest.specs.Bools.{or-left}
 use Rattle.frames.specs.Sizes.{Small, held, small-more, small-between, add-small}
 use Rattle.frames.specs.Finite.{Finite, tabs-finite, bar-bounded}
 use Rattle.frames.specs.Splits.{Bounded, Sane, total-small, total-good, split-meets}

@@ -1,7 +1,7 @@
 -- How long the lists of a frame can get: each tile of a sound tree adds what its kind shows, and a child and a handle. Assumes nothing.
 use mathlib.Core.Path.{_≡_, refl, sym, ap, subst, _∙_}
 use mathlib.Core.Logic.{_⊎_, inl, inr}
-use mathlib.Core.Bool.{Bool, true, false, _||_}
+use mathlib.Core.Bool.{Bool, true, false}
 use mathlib.Core.List.{List, [], _∷_, _++_}
 use mathlib.Core.Option.{some}
 use Prim.Native.Nat.{ℕ, zero, suc, _+_, _*_, _≤_, min}
@@ -29,7 +29,6 @@ use Rattle.rules.specs.declared.frame.TabBarFrame.{TabBarFrame}
 use Rattle.rules.specs.declared.frame.TabFrame.{TabFrame}
 use Rattle.rules.specs.declared.frame.SplitChildFrame.{SplitChildFrame}
 use Rattle.rules.specs.declared.frame.SplitHandleFrame.{SplitHandleFrame}
-use Rattle.forest.specs.Lists.{never}
 use Rattle.forest.specs.Codec.{stored}
 use Rattle.forest.specs.Forest.{Forest, nil, leaf, node, roots, tiles, Leafy, Holds}
 use Rattle.forest.specs.Grow.{Left, nothing, group, branch, keptOf, stem}
@@ -37,6 +36,7 @@ use Rattle.forest.specs.Quiet.{plainNodes}
 use Rattle.forest.specs.Settled.{Lone, Settled}
 use Rattle.forest.specs.SoundCases.{Plain, sound-cases}
 use Rattle.frames.specs.Plain.{layout-plain}
+use Rattle.forest.specs.Bools.{or-left, or-right}
 
 -- ---- lists gathered from two lists
 
@@ -49,14 +49,6 @@ gather-append f (x ∷ xs) ys =
     ∙ ap (λ (n : ℕ). n + length (gather f ys)) (sym (length-append (f x) (gather f xs)))
 
 -- ---- no node is too wide
-
-pub or-left : (a b : Bool) → (a || b) ≡ false → a ≡ false
-or-left true b e = never e
-or-left false b e = refl
-
-or-right : (a b : Bool) → (a || b) ≡ false → b ≡ false
-or-right true b e = never e
-or-right false b e = e
 
 pub narrow-at : (ns : List Node) (i : ℕ) → anyOf wideNode ns ≡ false → wideNode (getD ns i empty) ≡ false
 unfolding anyOf

@@ -6,7 +6,7 @@ use Prim.Native.Nat.{ℕ, zero, suc, _+_, _≤_, _<_}
 use native.Mathlib.Nat.{le-of-suc-le-suc}
 use native.Mathlib.Numerals.{add-one}
 use native.Mathlib.Omega.{arith}
-use lib.ListN.{length, take, getD, set, length-append, length-set}
+use lib.ListN.{length, take, getD, set, length-append}
 use lib.Seq.{take-suc, take-all, length-take-le, take-suc-set, take-set-lt}
 use Rattle.lists.specs.Exact.{padTo, Exactly, Pushed, Replaced}
 
@@ -78,10 +78,6 @@ module _ {A : Type 0} where
   pub exactly-is : {d : A} {at : List A} {len : ℕ} {xs ys : List A} → xs ≡ ys → Exactly d at len xs → Exactly d at len ys
   exactly-is {d} {at} {len} e x = subst (λ (l : List A). Exactly d at len l) e x
 
-  -- what is exactly the same list is the same array with the same length
-  pub exactly-same : {d : A} {at bt : List A} {len ken : ℕ} {xs : List A} → Exactly d at len xs → Exactly d bt ken xs → (at ≡ bt) × (len ≡ ken)
-  exactly-same x y = (x .padded ∙ sym (y .padded), x .size ∙ sym (y .size))
-
   -- a push in place keeps an exact list exact
   pub exactly-push : (d x : A) (at at′ : List A) (len len′ : ℕ) (xs : List A) → Exactly d at len xs → len < 16 → Pushed x at len at′ len′ → Exactly d at′ len′ (xs ++ x ∷ [])
   exactly-push d x at at′ len len′ xs e h p =
@@ -105,13 +101,3 @@ module _ {A : Type 0} where
   put-padTo zero d (y ∷ xs) i x h = refl
   put-padTo (suc n) d (y ∷ xs) zero x h = refl
   put-padTo (suc n) d (y ∷ xs) (suc i) x h = ap (λ (l : List A). y ∷ l) (put-padTo n d xs i x (le-of-suc-le-suc h))
-
-  -- a store within an exact list keeps it exact
-  pub exactly-replace : (d : A) (i : ℕ) (x : A) (at at′ : List A) (len len′ : ℕ) (xs : List A) → Exactly d at len xs → i < len → Replaced i x at len at′ len′ → Exactly d at′ len′ (set xs i x)
-  exactly-replace d i x at at′ len len′ xs e h p =
-      record {
-        list = p .list ∙ ap (λ (l : List A). set l i x) (e .list);
-        size = p .size ∙ e .size ∙ sym (length-set xs i x);
-        few = omega (arith, p .size, e .few);
-        padded = p .entries ∙ ap (λ (l : List A). set l i x) (e .padded) ∙ put-padTo 16 d xs i x (omega (arith, e .size));
-      }

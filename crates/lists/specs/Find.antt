@@ -96,6 +96,3 @@ module _ {A : Type 0} (t : A → Bool) where
       by true q rest f j h = absurd (omega (arith, same f))
       by false q rest f zero h = q
       by false q rest f (suc j) h = rest f j (omega arith)
-
-  pub position-first : (xs : List A) (i : ℕ) (d : A) → position t xs ≡ some i → (j : ℕ) → j < i → t (getD xs j d) ≡ false
-  position-first xs i d e j h = first-from 0 xs i d e j (omega arith)

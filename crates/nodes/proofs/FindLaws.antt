@@ -19,7 +19,7 @@ use Rattle.forest.specs.Lists.{never}
 use Rattle.columns.specs.Columns.{nodeBy, nodeFrom, nodesFrom}
 use Rattle.columns.specs.Pack.{overHead}
 use Rattle.columns.specs.ColumnLaws.{nodes-long, nodes-at, split-of}
-use Rattle.nodes.proofs.SlotLaws.{or-left}
+use Rattle.forest.specs.Bools.{or-left}
 use Rattle.nodes.specs.Find.{scanFrom, scanPane, parentFrom, scanParent, hit, orWhere, located-hit}
 
 -- ---- a pane

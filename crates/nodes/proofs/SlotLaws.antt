@@ -32,16 +32,9 @@ use Rattle.lists.specs.Exact.{IsIds}
 use Rattle.columns.specs.Columns.{nodeBy, nodesFrom}
 use Rattle.columns.specs.Pack.{firstOf}
 use Rattle.columns.specs.ColumnLaws.{nodes-long, nodes-at}
+use Rattle.forest.specs.Bools.{or-left, or-right}
 
 -- ---- tests
-
-pub or-left : (a b : Bool) → (a || b) ≡ false → a ≡ false
-or-left true b e = e
-or-left false b e = refl
-
-pub or-right : (a b : Bool) → (a || b) ≡ false → b ≡ false
-or-right true b e = never e
-or-right false b e = e
 
 -- ---- lists
 
@@ -132,9 +125,6 @@ module _ (ns : List Node) where
     first-of : (l : List ℕ) → firstOf l ≡ getD l 0 64
     first-of [] = refl
     first-of (x ∷ xs) = refl
-
-    pub spare-first : (a : ℕ) → a ≡ firstOf (rest 0) → a ≡ getD (emptySlots ns) 0 64
-    spare-first a e = e ∙ first-of (emptySlots ns)
 
     pub spares-none : (a : ℕ) → a ≡ firstOf (rest 0) → 64 ≤ a → emptySlots ns ≡ []
     spares-none a e h = rest-none 0 inside (omega arith)

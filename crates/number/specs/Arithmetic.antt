@@ -4,7 +4,6 @@ use mathlib.Core.Logic.{inl, inr}
 use Prim.Native.Nat.{ℕ, zero, suc, _+_, _-_, _*_, _^_, _≤_, _<_, zero-le}
 use native.Mathlib.Nat.{le-add-right, le-add-left, sub-le, lt-of-le-of-lt, le-trans, le-of-eq, lt-irrefl, lt-of-lt-of-le, eq-zero-or-pos, zero-mul, mul-one, one-mul, mul-comm, mul-assoc, mul-le-mul-right, mul-le-mul-left, mul-pos}
 use mathlib.Core.Bool.{Bool, true, false, cond}
-use lib.IntN.{ℤ}
 use lib.Dec.{T, ltb, eqb, ltb→lt}
 use borrow.Author.Tests.{ne-eqb}
 use lib.Ieee.{Float, nan, inf, fin, Format, binary32, binary64, prec, emax, low, up, down, odd, units, round, add, sub, mul, div, lt, le, fits}
@@ -107,14 +106,6 @@ not-eqb n h = ne-eqb n 0 (λ (e : n ≡ 0). lt-irrefl 0 (subst (λ (k : ℕ). 0 
 
 first-pos : (n u d : ℕ) → 0 * 2 ^ 0 * d < n * u * 1 → 0 < n
 first-pos n u d h = elim (eq-zero-or-pos n) [ inl z ↦ absurd (lt-irrefl 0 (lt-of-le-of-lt zero-le (lt-of-lt-of-le h (le-of-eq (mul-one (n * u) ∙ ap (λ (k : ℕ). k * u) z ∙ zero-mul u))))) | inr p ↦ p ]
-
-pub lt-digits : (k : ℕ) (d : ℤ) → T (lt zero-f (fin false k d)) → 0 < k
-unfolding lt
-lt-digits k d q = first-pos k (up d) (down d) (ltb→lt (0 * 2 ^ 0 * down d) (k * up d * 1) q)
-
-pub div-is : (f : Format) (m : ℕ) (e : ℤ) (k : ℕ) (d : ℤ) → 0 < k → div f (fin false m e) (fin false k d) ≡ round f false (m * up e * down d) (k * up d * down e)
-unfolding div
-div-is f m e k d h = ap (λ (t : Bool). cond t (cond (eqb m 0) nan (inf false)) (round f false (m * up e * down d) (k * up d * down e))) (not-eqb k h)
 
 pub div-le-one : (f : Format) (x y : Float) → T (nonneg x) → T (finite x) → T (lt zero-f y) → T (le x y) → AtMost one-f (div f x y)
 div-le-one f nan y p n q h = absurd p

@@ -17,6 +17,7 @@ use Rattle.rules.specs.declared.refusal.Answer.{Answer}
 use Rattle.rules.specs.declared.refusal.Answer.the-variants.{Accepted, Refused}
 use Rattle.forest.specs.Lists.{never}
 use Rattle.promises.specs.Words.{Tells, numberOf, one-number, both-ways, and-means}
+use Rattle.forest.specs.Bools.{true-right}
 
 -- some entry passes the test
 abbrev pub Some : {A : Type 0} → (A → Bool) → List A → Type 0
@@ -31,13 +32,9 @@ any-means p (x ∷ xs) = go (any-means p xs)
     there f true q e = (x, inl refl, q)
     there f false q e = let (y, m, r) = f e in (y, inr m, r)
 
-    or-right : (b c : Bool) → c ≡ true → (b || c) ≡ true
-    or-right true c e = refl
-    or-right false c e = e
-
     back : (Some p xs → anyOf p xs ≡ true) → Some p (x ∷ xs) → (p x || anyOf p xs) ≡ true
     back f (y, inl e, q) = ap (λ (b : Bool). b || anyOf p xs) (ap p (sym e) ∙ q)
-    back f (y, inr m, q) = or-right (p x) (anyOf p xs) (f (y, m, q))
+    back f (y, inr m, q) = true-right (p x) (anyOf p xs) (f (y, m, q))
 
     go : (anyOf p xs ≡ true) ↔ Some p xs → (anyOf p (x ∷ xs) ≡ true) ↔ Some p (x ∷ xs)
     go f = (there (f .0) (p x) refl, back (f .1))

@@ -23,7 +23,7 @@ use Rattle.forest.specs.Again.{names, names-long}
 use Rattle.forest.specs.Grow.{Left, nothing, group, branch, keptOf, stem}
 use Rattle.forest.specs.Settled.{Tidy, reads}
 use Rattle.build.specs.PushLaws.{map-append}
-use Rattle.checks.specs.CheckLaws.{or-left, or-right}
+use Rattle.forest.specs.Bools.{or-left, or-right}
 use Rattle.roundtrip.specs.Write.{rowOfNode, nodeShares, nodeMinima, along, tableAlong, tableOfTree, toSpec}
 use Rattle.roundtrip.specs.ReadBack.{Bytes, RowFits, Real, Writable, bytes-fit, read-back}
 use Rattle.accepted.specs.Accepted.{accepted-panes}

@@ -17,7 +17,8 @@ use Rattle.rules.specs.declared.model.TileTree.{TileTree}
 use Rattle.columns.specs.Columns.{nodesFrom, Slim}
 use Rattle.columns.specs.Pack.{headBy, headOf, overHead, overOf}
 use Rattle.columns.specs.Shown.{Columned, arenaFrom, Plain}
-use Rattle.columns.specs.PackLaws.{or-left, or-right, heads-over}
+use Rattle.columns.specs.PackLaws.{heads-over}
+use Rattle.forest.specs.Bools.{or-left, or-right}
 use Rattle.columns.specs.OverLaws.{any-alike}
 use Rattle.columns.specs.ColumnLaws.{nodes-long}
 use Rattle.settling.proofs.StartLaws.{heads-long, ids-long, shares-long, minima-long, columns-show}

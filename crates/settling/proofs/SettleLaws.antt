@@ -27,7 +27,7 @@ use Rattle.sifting.specs.declared.Kept.the-variants.{At, Gone, Wide}
 use Rattle.columns.specs.Columns.{nodesFrom, Slim, codeOf, Lists}
 use Rattle.columns.specs.ColumnLaws.{nodes-head, slim-set}
 use Rattle.columns.specs.Pack.{overHead, overKind, overOf, firstOf}
-use Rattle.columns.specs.PackLaws.{or-left}
+use Rattle.forest.specs.Bools.{or-left}
 use Rattle.columns.specs.OverLaws.{none-over}
 use Rattle.columns.specs.Shown.{arenaFrom, Plain}
 use Rattle.settling.specs.Settle.{Left, Comes, Settles, Mends, Refuses, Finishes, blankHead, Plants}

@@ -16,7 +16,8 @@ use Rattle.sifting.specs.Work.{Cols, cols, nodesIn, Sized, Shows}
 use Rattle.sifting.specs.declared.Counts.{Counts}
 use Rattle.columns.specs.Columns.{nodeBy, nodesFrom, Slim}
 use Rattle.columns.specs.Pack.{headOf, idsOf, sharesOf, minimaOf, Unpacks}
-use Rattle.columns.specs.PackLaws.{or-left, or-right, unpacked}
+use Rattle.columns.specs.PackLaws.{unpacked}
+use Rattle.forest.specs.Bools.{or-left, or-right}
 
 -- ---- no list of slim heads is too wide
 

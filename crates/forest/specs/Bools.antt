@@ -1,0 +1,19 @@
+-- Laws of or, for every crate. Assumes nothing.
+use mathlib.Core.Path.{_≡_, refl, ap}
+use mathlib.Core.Bool.{Bool, true, false, _||_}
+use Rattle.forest.specs.Lists.{never}
+
+pub or-left : (a b : Bool) → (a || b) ≡ false → a ≡ false
+or-left true b e = e
+or-left false b e = refl
+
+pub or-right : (a b : Bool) → (a || b) ≡ false → b ≡ false
+or-right true b e = never e
+or-right false b e = e
+
+pub true-left : (a b : Bool) → a ≡ true → (a || b) ≡ true
+true-left a b e = ap (λ (c : Bool). c || b) e
+
+pub true-right : (a b : Bool) → b ≡ true → (a || b) ≡ true
+true-right true b e = refl
+true-right false b e = e
