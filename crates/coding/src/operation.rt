@@ -1,8 +1,8 @@
 // An operation and a layout's input from their numbers.
+use columns::modes;
 use rules::frame::LayoutInput;
 use rules::frame::Rect;
 use rules::frame::Size;
-use rules::model::Axis;
 use rules::model::Placement;
 use rules::model::TileId;
 use rules::operation::DockTarget;
@@ -10,17 +10,7 @@ use rules::operation::TabIndex;
 use rules::operation::TileOp;
 ghost use mathlib.Core.Path.{_≡_};
 ghost use lib.ListN.{getD};
-ghost use Rattle.columns.specs.Columns.{axisFrom};
 ghost use Rattle.coding.specs.Lent.{placementFrom, indexFrom, targetBy, opFrom, inputFrom};
-
-fn axis_of(n: u64) -> Axis
-    ensures { λ r. ⌜ r ≡ axisFrom n ⌝ }
-{
-    match n {
-        0 => Axis::Horizontal,
-        _ => Axis::Vertical,
-    }
-}
 
 fn placement_of(n: u64) -> Placement
     ensures { λ r. ⌜ r ≡ placementFrom n ⌝ }
@@ -49,7 +39,7 @@ fn target_of(w: [u64; 8], fraction: f64) -> DockTarget
         return DockTarget::Root;
     }
     if what == 1 {
-        let along = axis_of(w[2]);
+        let along = modes::axis_of(w[2]);
         let placement = placement_of(w[3]);
         return DockTarget::Split {
             tile,
@@ -75,7 +65,7 @@ pub fn op_of(words: &[u64; 8], fraction: f64) -> TileOp
         return TileOp::ClosePane { pane };
     }
     if what == 2 {
-        let axis = axis_of(w[2]);
+        let axis = modes::axis_of(w[2]);
         let placement = placement_of(w[3]);
         return TileOp::SplitPane {
             pane,

@@ -3,6 +3,7 @@
 // lengths of its ids, shares and minima. Beside them the list of actions that repair writes, and its report.
 use rules::model::RepairAction;
 
+pub mod modes;
 pub mod pack;
 pub mod slots;
 pub mod unpack;

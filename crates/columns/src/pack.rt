@@ -1,10 +1,9 @@
 // From columns to slots.
-use rules::model::Axis;
+use crate::modes;
 use rules::model::Ids;
 use rules::model::Kind;
 use rules::model::Reals;
 use rules::model::Slot;
-use rules::model::TabBarPlacement;
 use rules::model::TileId;
 use rules::model::Tiles;
 ghost use mathlib.Core.Path.{_≡_};
@@ -16,27 +15,6 @@ ghost use Rattle.rules.specs.Lists.{anyOf};
 ghost use Rattle.rules.specs.Tree.{Node, empty, tile, viewSlot, overSlot};
 ghost use Rattle.columns.specs.Columns.{barFrom, axisFrom, nodeFrom, nodesFrom};
 ghost use Rattle.columns.specs.Pack.{overHead, overOf};
-
-fn bar_of(mode: u64) -> TabBarPlacement
-    ensures { λ r. ⌜ r ≡ barFrom mode ⌝ }
-{
-    match mode {
-        0 => TabBarPlacement::Hidden,
-        1 => TabBarPlacement::Top,
-        2 => TabBarPlacement::Bottom,
-        3 => TabBarPlacement::Left,
-        _ => TabBarPlacement::Right,
-    }
-}
-
-fn axis_of(mode: u64) -> Axis
-    ensures { λ r. ⌜ r ≡ axisFrom mode ⌝ }
-{
-    match mode {
-        0 => Axis::Horizontal,
-        _ => Axis::Vertical,
-    }
-}
 
 // The tiles whose slot numbers these are.
 fn tiles_of(row: [u64; 16]) -> [TileId; 16]
@@ -81,7 +59,7 @@ pub fn bare_slot(kind: Kind) -> Slot
 fn group_slot(h: [u64; 8], row: [u64; 16]) -> Slot
     ensures { λ r. ⌜ (viewSlot r ≡ Node.tabs (barFrom (getD h 1 0)) (getD h 3 0) (take (getD h 4 0) row)) × (overSlot r ≡ ltb 16 (getD h 4 0)) ⌝ }
 {
-    let bar = bar_of(h[1]);
+    let bar = modes::bar_of(h[1]);
     let mut s = bare_slot(Kind::Tabs(bar));
     let panes = Ids {
         at: row,
@@ -95,7 +73,7 @@ fn group_slot(h: [u64; 8], row: [u64; 16]) -> Slot
 fn split_slot(h: [u64; 8], row: [u64; 16], shares: [f64; 16], minima: [f64; 16]) -> Slot
     ensures { λ r. ⌜ (viewSlot r ≡ Node.split (axisFrom (getD h 1 0)) (map tile (take (getD h 4 0) row)) (take (getD h 5 0) shares) (take (getD h 6 0) minima)) × (overSlot r ≡ overHead h) ⌝ }
 {
-    let axis = axis_of(h[1]);
+    let axis = modes::axis_of(h[1]);
     let mut s = bare_slot(Kind::Split(axis));
     let at = tiles_of(row);
     let children = Tiles {

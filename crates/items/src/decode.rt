@@ -63,7 +63,7 @@ pub fn bar_of(row: [u64; 5], q: [f64; 4]) -> TabBarFrame
 {
     let group = TileId { slot: row[1] };
     let rect = rect_of(q);
-    let placement = streaming::tabs::placement_of(row[4]);
+    let placement = columns::modes::bar_of(row[4]);
     TabBarFrame {
         group,
         rect,
@@ -105,7 +105,7 @@ pub fn handle_of(row: [u64; 5], q: [f64; 4]) -> SplitHandleFrame
 {
     let split = TileId { slot: row[1] };
     let rect = rect_of(q);
-    let axis = placing::splits::axis_of(row[4]);
+    let axis = columns::modes::axis_of(row[4]);
     SplitHandleFrame {
         split,
         handle: row[3] as usize,

@@ -1,5 +1,7 @@
 // layout_tile and layout_split: a tile's layout calls a split's, which calls back with one level less to go. The Rust's `visiting` is the depth:
 // a sound tree is never deeper than 64.
+use columns::modes;
+use columns::slots;
 use placing::splits;
 use rules::frame::LayoutInput;
 use rules::frame::Rect;
@@ -121,8 +123,8 @@ fn layout_split(
     let i = id as usize;
     let head = heads[i];
     let children = ids[i];
-    splits::full(children);
-    let axis = splits::axis_of(head[1]);
+    slots::full(children);
+    let axis = modes::axis_of(head[1]);
     let lengths = splits::split_lengths(head, shares[i], minima[i], axis, rect, input);
     let count = head[4] as usize;
     let handle = input.split_handle_thickness;

@@ -9,17 +9,7 @@ ghost use Prim.Native.Nat.{_-_, _≤_};
 ghost use lib.ListN.{length, getD, take};
 ghost use Rattle.rules.specs.Tree.{reals};
 ghost use Rattle.rules.specs.Frame as Rule;
-ghost use Rattle.columns.specs.Columns.{Slim, axisFrom};
-
-// The axis whose number stands in a split's head.
-pub fn axis_of(mode: u64) -> Axis
-    ensures { λ r. ⌜ r ≡ axisFrom mode ⌝ }
-{
-    match mode {
-        0 => Axis::Horizontal,
-        _ => Axis::Vertical,
-    }
-}
+ghost use Rattle.columns.specs.Columns.{Slim};
 
 // A child's rectangle or a handle's: from `at` on along the axis, `size` long.
 pub fn along_rect(axis: Axis, rect: Rect, at: f64, size: f64) -> Rect
@@ -71,11 +61,6 @@ fn child_total(axis: Axis, count: usize, rect: Rect, input: LayoutInput) -> f64
     let handle_total = input.split_handle_thickness * number::whole(gaps(count));
     number::larger(major - handle_total, 0.0)
 }
-
-// An array by value has 16 places.
-pub fn full(row: [u64; 16])
-    ensures { λ r. ⌜ length row ≡ 16 ⌝ }
-{}
 
 fn measured(l: Reals)
     requires { ⌜ l .len ≤ 16 ⌝ }

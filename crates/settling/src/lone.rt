@@ -1,4 +1,5 @@
 // The one sound tree that repair would alter: its only occupied slot is the root, an empty Hidden group with active 0.
+use columns::slots;
 use noting::sweep;
 ghost use mathlib.Core.Path.{_≡_};
 ghost use mathlib.Core.List.{[]};
@@ -23,11 +24,6 @@ fn is_blank(h: [u64; 8]) -> bool
     h[4] == 0
 }
 
-// A row of ids has 16 places, which only one by value tells.
-fn full(row: [u64; 16])
-    ensures { λ r. ⌜ length row ≡ 16 ⌝ }
-{}
-
 // The root's row of ids has 16 places, where there is one.
 pub fn root_row(ids: &[[u64; 16]; 64], root: u64)
     ensures { λ r. ⌜ (root < 64 → length (getD (now (ids .entry)) root []) ≡ 16) ⌝ }
@@ -35,7 +31,7 @@ pub fn root_row(ids: &[[u64; 16]; 64], root: u64)
     if root < 64 {
         let i = root as usize;
         let row = ids[i];
-        full(row);
+        slots::full(row);
     }
 }
 

@@ -1,5 +1,6 @@
 // A group: the Rust's layout_tabs.
 use crate::stream;
+use columns::modes;
 use rules::frame::LayoutInput;
 use rules::frame::Rect;
 use rules::model::TabBarPlacement;
@@ -12,19 +13,6 @@ ghost use Rattle.rules.specs.Frame.{focusItems, tabsFrom, barItems, layoutTabs}
 ghost use Rattle.rules.specs.declared.model.TabBarPlacement.the-variants as Placements;
 ghost use Rattle.columns.specs.Columns.{Slim, barFrom};
 ghost use Rattle.streaming.specs.Stream as Streams;
-
-// The placement whose number stands in a group's head.
-pub fn placement_of(mode: u64) -> TabBarPlacement
-    ensures { λ r. ⌜ r ≡ barFrom mode ⌝ }
-{
-    match mode {
-        0 => TabBarPlacement::Hidden,
-        1 => TabBarPlacement::Top,
-        2 => TabBarPlacement::Bottom,
-        3 => TabBarPlacement::Left,
-        _ => TabBarPlacement::Right,
-    }
-}
 
 fn is_hidden(placement: TabBarPlacement) -> bool
     ensures { λ r. ⌜ r ≡ samePlacement placement Placements.Hidden ⌝ }
@@ -132,7 +120,7 @@ pub fn layout_tabs(
     requires { ⌜ Slim head ⌝ }
     ensures { λ r. ⌜ Streams.stream (now (items .exit)) (now (rects .exit)) r ≡ Streams.pushAll (layoutTabs (tile id) (barFrom (getD head 1 0)) (getD head 3 0) (take (getD head 4 0) panes) rect input) (Streams.stream (now (items .entry)) (now (rects .entry)) n) ⌝ }
 {
-    let placement = placement_of(head[1]);
+    let placement = modes::bar_of(head[1]);
     let count = head[4] as usize;
     let m = focus_all(items, rects, n, panes, count);
     if count == 0 {

@@ -23,8 +23,8 @@ use Rattle.laying.proofs.tiles.layout_tile.Kinds as layout-tile-kinds
 use Rattle.laying.proofs.tiles.+layout_split+layout_tile.Lts-layout_tile as layout-tile-lts
 use Rattle.placing.proofs.splits.along_rect.Reads as along-rect-reads
 use Rattle.placing.proofs.splits.along_start.Reads as along-start-reads
-use Rattle.placing.proofs.splits.axis_of.Reads as axis-of-reads
-use Rattle.placing.proofs.splits.full.Reads as full-reads
+use Rattle.columns.proofs.modes.axis_of.Reads as axis-of-reads
+use Rattle.columns.proofs.slots.full.Reads as full-reads
 use Rattle.placing.proofs.splits.split_lengths.Reads as split-lengths-reads
 use Rattle.streaming.proofs.stream.push_child.Reads as push-child-reads
 use Rattle.streaming.proofs.tabs.layout_tabs.Reads as layout-tabs-reads

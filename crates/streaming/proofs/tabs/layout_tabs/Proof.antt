@@ -15,11 +15,11 @@ use borrow.Author.Needs.{needs}
 use Rattle.streaming.proofs.tabs.layout_tabs.Statement.{statement}
 use Rattle.streaming.proofs.tabs.layout_tabs.Tie as tie
 
-array-read-placement-of : tie.Need-array-read-placement-of
-array-read-placement-of c = search needs
+array-read-bar-of : tie.Need-array-read-bar-of
+array-read-bar-of c = search needs
 
-placement-of-requires : tie.Need-placement-of-requires
-placement-of-requires c κs = search needs
+bar-of-requires : tie.Need-bar-of-requires
+bar-of-requires c κs = search needs
 
 array-read-count : tie.Need-array-read-count
 array-read-count c = search needs
@@ -80,18 +80,18 @@ returns-2 c =
     let s₀ = stream (a .items .now) (a .rects .now) (a .n) in
     let s₂ = stream (b .bar-all .last .0) (b .bar-all .last .1 .0) (b .bar-all .result) in
     let s₃ = stream (c .push-pane .last .0) (c .push-pane .last .1 .0) (c .push-pane .result) in
-    group-some (tile (a .id)) (p .placement-of .result) (getD h 3 0) (a .rect) (a .input) ps active (sp .split-tab-bar .result .bar) (sp .split-tab-bar .result .pane) s₀
+    group-some (tile (a .id)) (p .bar-of .result) (getD h 3 0) (a .rect) (a .input) ps active (sp .split-tab-bar .result .bar) (sp .split-tab-bar .result .pane) s₀
     (stream (f .focus-all .last .0) (f .focus-all .last .1 .0) (f .focus-all .result)) s₂ s₃ (omega arith)
     (ac .active-index .ensures .0 ∙ ap (λ (k : ℕ). min (getD h 3 0) (k - 1)) (sym long)) (sp .split-tab-bar .ensures) (f .focus-all .ensures) (b .bar-all .ensures)
     (c .push-pane .ensures ∙ ap (λ (x : ℕ). pushItem (aPane x (tile (a .id)) (sp .split-tab-bar .result .pane)) s₂) (sym (getD-take n (a .t6) active 0 (ac .active-index .ensures .1))))
-    ∙ ap (λ (x : TabBarPlacement). pushAll (layoutTabs (tile (a .id)) x (getD h 3 0) ps (a .rect) (a .input)) s₀) (p .placement-of .ensures)
+    ∙ ap (λ (x : TabBarPlacement). pushAll (layoutTabs (tile (a .id)) x (getD h 3 0) ps (a .rect) (a .input)) s₀) (p .bar-of .ensures)
 
 pub layout-tabs-spec : {M : Type 1} → statement M
 layout-tabs-spec =
     tie.close
     (tie.spec
-    array-read-placement-of
-    placement-of-requires
+    array-read-bar-of
+    bar-of-requires
     array-read-count
     focus-all-requires
     returns

@@ -1,8 +1,8 @@
--- `columns::pack::axis_of`: any number but 0 is vertical. Assumes nothing.
+-- `columns::modes::axis_of`: any number but 0 is vertical. Assumes nothing.
 use Rattle.columns.specs.PackLaws.{axis-other}
 use borrow.Author.Needs.{needs}
-use Rattle.columns.proofs.pack.axis_of.Statement.{statement}
-use Rattle.columns.proofs.pack.axis_of.Tie as tie
+use Rattle.columns.proofs.modes.axis_of.Statement.{statement}
+use Rattle.columns.proofs.modes.axis_of.Tie as tie
 
 returns : tie.Need-returns
 returns c = search needs

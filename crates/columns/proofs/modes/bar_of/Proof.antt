@@ -1,8 +1,8 @@
--- `columns::pack::bar_of`: any number over 3 is the right side. Assumes nothing.
+-- `columns::modes::bar_of`: any number over 3 is the right side. Assumes nothing.
 use Rattle.columns.specs.PackLaws.{bar-other}
 use borrow.Author.Needs.{needs}
-use Rattle.columns.proofs.pack.bar_of.Statement.{statement}
-use Rattle.columns.proofs.pack.bar_of.Tie as tie
+use Rattle.columns.proofs.modes.bar_of.Statement.{statement}
+use Rattle.columns.proofs.modes.bar_of.Tie as tie
 
 returns : tie.Need-returns
 returns c = search needs
