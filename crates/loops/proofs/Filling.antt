@@ -1,17 +1,14 @@
 -- Loops that fill an array from its start, one law for all of them: the first i are p's first i, and the rest are as they were. Assumes nothing.
 use mathlib.Core.Path.{_≡_, refl, sym, ap, _∙_, subst}
-use mathlib.Core.Bool.{false}
 use mathlib.Core.List.{List, [], _∷_, _++_, map}
 use Prim.Native.Nat.{ℕ, zero, suc, _+_, _-_, _≤_, _<_}
-use native.Mathlib.Nat.{add-zero, sub-zero}
+use native.Mathlib.Nat.{sub-zero}
 use native.Mathlib.Numerals.{add-one}
 use native.Mathlib.Omega.{arith}
 use lib.ListN.{length, getD, take, drop, set, length-set, replicate, replicate-append-replicate}
-use lib.Seq.{getD-drop, take-suc, take-suc-set, drop-set-lt, drop-drop, length-take-le}
+use lib.Seq.{take-suc, take-suc-set, drop-set-lt, drop-drop}
 use lib.Ieee.{Float}
 use Rattle.rules.specs.Numbers.{zero-f}
-use Rattle.rules.specs.Solver.{part, start}
-use Rattle.rules.specs.declared.solving.Kid.{Kid}
 use Rattle.loops.specs.Padded.{Padded}
 
 pub record Filled {B : Type 0} (p : ℕ → List B) (out₀ out : List B) (i : ℕ) : Type 0 where
@@ -30,11 +27,6 @@ filled-step {B} p out₀ out i v h e f =
       done = ap (λ (j : ℕ). take j (set out i v)) (add-one i) ∙ take-suc-set out i v k ∙ ap (λ (l : List B). l ++ (v ∷ [])) (f .done) ∙ sym e;
       rest = drop-set-lt (i + 1) out i v (omega arith) ∙ sym (drop-drop 1 i out) ∙ ap (drop 1) (f .rest) ∙ drop-drop 1 i out₀;
     }
-
--- what an element that was not reached yet is
-pub filled-read : {B : Type 0} (p : ℕ → List B) (out₀ out : List B) (i : ℕ) (d : B) → Filled p out₀ out i → getD out i d ≡ getD out₀ i d
-filled-read {B} p out₀ out i d f =
-    ap (λ (k : ℕ). getD out k d) (sym (add-zero i)) ∙ sym (getD-drop i out 0 d) ∙ ap (λ (z : List B). getD z 0 d) (f .rest) ∙ getD-drop i out₀ 0 d ∙ ap (λ (k : ℕ). getD out₀ k d) (add-zero i)
 
 pub filled-end : {B : Type 0} (p : ℕ → List B) (out₀ out : List B) (n i : ℕ) → n ≤ i → i ≤ n → Filled p out₀ out i → take n out ≡ p n
 filled-end p out₀ out n i h k f =
@@ -67,16 +59,16 @@ padded-end p out n i h k f =
 pub padded-none : Padded 0 [] zeros
 padded-none = record { front = refl; back = refl }
 
-pub padded-zeros : (n : ℕ) → n ≤ 16 → Padded n (replicate n zero-f) zeros
-padded-zeros n h = record { front = take-replicate n 16 h; back = drop-replicate n 16 zero-f }
+pub take-replicate : {B : Type 0} (n m : ℕ) (b : B) → n ≤ m → take n (replicate m b) ≡ replicate n b
+take-replicate zero m b h = refl
+take-replicate (suc n) zero b h = absurd (no n h)
   where
-    take-replicate : (n m : ℕ) → n ≤ m → take n (replicate m zero-f) ≡ replicate n zero-f
-    take-replicate zero m h = refl
-    take-replicate (suc n) zero h = absurd (no n h)
-      where
-        no : (n : ℕ) → suc n ≤ 0 → ⊥
-        no n h = omega arith
-    take-replicate (suc n) (suc m) h = ap (λ (l : List Float). zero-f ∷ l) (take-replicate n m (omega arith))
+    no : (n : ℕ) → suc n ≤ 0 → ⊥
+    no n h = omega arith
+take-replicate {B} (suc n) (suc m) b h = ap (λ (l : List B). b ∷ l) (take-replicate n m b (omega arith))
+
+pub padded-zeros : (n : ℕ) → n ≤ 16 → Padded n (replicate n zero-f) zeros
+padded-zeros n h = record { front = take-replicate n 16 zero-f h; back = drop-replicate n 16 zero-f }
 
 -- ---- what is filled in: the first i of it, and one more
 pub take-more : {A : Type 0} (l : List A) (i : ℕ) (d : A) → i < length l → take (i + 1) l ≡ take i l ++ (getD l i d ∷ [])
@@ -91,32 +83,3 @@ map-more g l i d h = ap (map g) (take-more l i d h) ∙ map-append-one g (take i
 
 pub same-more : {B : Type 0} (b : B) (i : ℕ) → replicate (i + 1) b ≡ replicate i b ++ (b ∷ [])
 same-more b i = sym (replicate-append-replicate i 1 b)
-
-abbrev pub fresh : Float → Float → Float → Float → Kid
-fresh t w s m = record { share = s; minimum = m; size = part t s w; fixed = false }
-
-start-one : (t w : Float) (ss ms : List Float) (s m : Float) → length ss ≡ length ms → start t w (ss ++ (s ∷ [])) (ms ++ (m ∷ [])) ≡ start t w ss ms ++ (fresh t w s m ∷ [])
-unfolding start
-start-one t w [] [] s m e = refl
-start-one t w [] (y ∷ ms) s m e = absurd (no (length ms) e)
-  where
-    no : (n : ℕ) → 0 ≡ suc n → ⊥
-    no n e = omega arith
-start-one t w (x ∷ ss) [] s m e = absurd (no (length ss) e)
-  where
-    no : (n : ℕ) → suc n ≡ 0 → ⊥
-    no n e = omega arith
-start-one t w (x ∷ ss) (y ∷ ms) s m e = ap (λ (l : List Kid). fresh t w x y ∷ l) (start-one t w ss ms s m (back (length ss) (length ms) e))
-  where
-    back : (a b : ℕ) → suc a ≡ suc b → a ≡ b
-    back a b e = omega arith
-
-pub start-none : (t w : Float) (ss ms : List Float) → start t w (take 0 ss) (take 0 ms) ≡ []
-unfolding start
-start-none t w ss ms = refl
-
-pub start-more : (t w : Float) (ss ms : List Float) (i : ℕ) (d : Float) → i < length ss → i < length ms
-    → start t w (take (i + 1) ss) (take (i + 1) ms) ≡ start t w (take i ss) (take i ms) ++ (fresh t w (getD ss i d) (getD ms i d) ∷ [])
-start-more t w ss ms i d h k =
-    (λ j. start t w (take-more ss i d h j) (take-more ms i d k j))
-    ∙ start-one t w (take i ss) (take i ms) (getD ss i d) (getD ms i d) (length-take-le i ss (omega arith) ∙ sym (length-take-le i ms (omega arith)))

@@ -1,3 +1,4 @@
 pub mod Loops
 pub mod Filling
 pub mod Branches
+pub mod Work

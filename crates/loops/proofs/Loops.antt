@@ -1,5 +1,5 @@
--- Loops that read the first n elements of an array: a sum, a test of each, and a search, as facts about lists. Assumes nothing.
-use mathlib.Core.Path.{_≡_, sym, ap, _∙_, subst}
+-- Loops that read the first n elements of an array: a sum and a test of each, as facts about lists. Assumes nothing.
+use mathlib.Core.Path.{_≡_, sym, ap, _∙_}
 use mathlib.Core.Bool.{Bool, true, false, _&&_, cond}
 use mathlib.Core.List.{List, [], _∷_}
 use Prim.Native.Nat.{ℕ, _+_, _≤_, _<_}
@@ -9,7 +9,7 @@ use lib.ListN.{length, getD, take, drop}
 use lib.Seq.{drop-cons, getD-take, drop-length, length-take-le}
 use lib.Ieee.{Float, nan, binary64, add}
 use Rattle.rules.specs.Lists.{allOf}
-use Rattle.rules.specs.Solver.{sumBy, short, anyShort}
+use Rattle.rules.specs.Solver.{sumBy}
 use Rattle.rules.specs.declared.solving.Kid.{Kid}
 
 -- what the code reads past an array's end
@@ -43,12 +43,6 @@ module _ {A : Type 0} where
   unfolding sumBy
   summed-end on val a xs n i t h g k e = sym (ap (λ (l : List A). sumBy on val t l) (rest-none xs n i h g k)) ∙ e
 
-  -- the same by what a test of the element said, and what the code then has for its sum
-  pub summed-by : (on : A → Bool) (val : A → Float) (a : Float) (xs : List A) (n i : ℕ) (t t' : Float) (d : A) (b : Bool) → i < n → n ≤ length xs
-      → on (getD xs i d) ≡ b → t' ≡ cond b (add binary64 t (val (getD xs i d))) t → Summed on val a xs n i t → Summed on val a xs n (i + 1) t'
-  summed-by on val a xs n i t t' d b h k p q e =
-      subst (λ (z : Float). Summed on val a xs n (i + 1) z) (ap (λ (b : Bool). cond b (add binary64 t (val (getD xs i d))) t) p ∙ sym q) (summed-step on val a xs n i t d h k e)
-
   -- ---- a test of each that has held up to i
   abbrev pub Tested : (A → Bool) → List A → ℕ → ℕ → Type 0
   Tested p xs n i = allOf p (drop i (take n xs)) ≡ allOf p (take n xs)
@@ -66,18 +60,3 @@ module _ {A : Type 0} where
   pub tested-end : (p : A → Bool) (xs : List A) (n i : ℕ) → n ≤ i → i ≤ n → n ≤ length xs → Tested p xs n i → true ≡ allOf p (take n xs)
   unfolding allOf
   tested-end p xs n i h g k inv = sym (ap (allOf p) (rest-none xs n i h g k)) ∙ inv
-
--- ---- a search that has found no short child up to i
-at-short : (kids : List Kid) (n i : ℕ) (b : Bool) → i < n → n ≤ length kids → short (getD kids i kid0) ≡ b → anyShort (drop i (take n kids)) ≡ cond b true (anyShort (drop (i + 1) (take n kids)))
-unfolding anyShort
-at-short kids n i b h k e = ap anyShort (rest-at kids n i kid0 h k) ∙ ap (λ (c : Bool). cond c true (anyShort (drop (i + 1) (take n kids)))) e
-
-pub short-step : (kids : List Kid) (n i : ℕ) → i < n → n ≤ length kids → short (getD kids i kid0) ≡ false → anyShort (drop i (take n kids)) ≡ anyShort (drop (i + 1) (take n kids))
-short-step kids n i h k e = at-short kids n i false h k e
-
-pub short-found : (kids : List Kid) (n i : ℕ) → i < n → n ≤ length kids → short (getD kids i kid0) ≡ true → anyShort (drop i (take n kids)) ≡ true
-short-found kids n i h k e = at-short kids n i true h k e
-
-pub short-none : (kids : List Kid) (n i : ℕ) → n ≤ i → i ≤ n → n ≤ length kids → anyShort (drop i (take n kids)) ≡ false
-unfolding anyShort
-short-none kids n i h g k = ap anyShort (rest-none kids n i h g k)

@@ -1,7 +1,7 @@
 // Arrays whose first n places are filled. What is handed back as lengths has zeros after them.
 ghost use mathlib.Core.Path.{_≡_};
 ghost use Prim.Native.Nat.{_≤_};
-ghost use lib.ListN.{take};
+ghost use lib.ListN.{length, take};
 ghost use mathlib.Core.List.{map};
 ghost use lib.ListN.{replicate};
 ghost use Rattle.rules.specs.Numbers.{plus};
@@ -23,23 +23,24 @@ pub fn even(n: usize, x: f64) -> [f64; 16]
 }
 
 // The Rust's `xs.iter().map(|x| total * (*x / whole)).collect()`.
-pub fn parts(xs: [f64; 16], n: usize, total: f64, whole: f64) -> [f64; 16]
-    requires { ⌜ n ≤ 16 ⌝ }
-    ensures { λ r. ⌜ Padded n (map (λ x. part total x whole) (take n xs)) r ⌝ }
+pub fn parts(xs: &[f64; 16], n: usize, total: f64, whole: f64) -> [f64; 16]
+    requires { ⌜ (n ≤ 16) × (length (now xs) ≡ 16) ⌝ }
+    ensures { λ r. ⌜ Padded n (map (λ x. part total x whole) (take n (now (xs .entry)))) r ⌝ }
 {
-    let mut out = [0.0; 16];
+    let mut lengths = [0.0; 16];
     let mut i = 0usize;
     while i < n {
-        out[i] = total * (xs[i] / whole);
+        let x = xs[i];
+        lengths[i] = total * (x / whole);
         i += 1;
     }
-    out
+    lengths
 }
 
 // Minus zero read as zero in the first n.
-pub fn plus_all(xs: [f64; 16], n: usize) -> [f64; 16]
-    requires { ⌜ n ≤ 16 ⌝ }
-    ensures { λ r. ⌜ Padded n (map plus (take n xs)) r ⌝ }
+pub fn plus_all(xs: &[f64; 16], n: usize) -> [f64; 16]
+    requires { ⌜ (n ≤ 16) × (length (now xs) ≡ 16) ⌝ }
+    ensures { λ r. ⌜ Padded n (map plus (take n (now (xs .entry)))) r ⌝ }
 {
     let mut out = [0.0; 16];
     let mut i = 0usize;

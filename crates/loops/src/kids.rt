@@ -1,132 +1,127 @@
-// The children in the solver's work: each with its share, its minimum, its length so far and whether it is fixed at its minimum.
+// The children in the solver's work, four lists side by side: shares and minima, which are only read, lengths so far, and which are fixed at their minimum.
 use rules::solving::Kid;
 ghost use mathlib.Core.Path.{_≡_};
 ghost use Prim.Native.Nat.{_≤_};
 ghost use lib.ListN.{take};
-ghost use mathlib.Core.List.{map};
 ghost use Rattle.rules.specs.Solver as Rules;
-ghost use Rattle.loops.specs.Padded.{Padded};
+ghost use Rattle.loops.specs.Columns.{kidsOf, Long, Worked, Tallied, Turned};
 
-// The body of the Rust's first inner loop, as far as it changes a child: fixed at its minimum where it is below it.
-pub fn pin(k: Kid) -> Kid
-    ensures { λ r. ⌜ r ≡ Rules.pin k ⌝ }
+// The locals of the Rust's outer loop: `changed`, `fixed_total` and `flexible_share_total`.
+pub struct Held {
+    pub changed: bool,
+    pub held: f64,
+    pub flexible: f64,
+}
+
+// A child's length and whether it is fixed, and those locals, after its turn.
+pub struct Turn {
+    pub size: f64,
+    pub fixed: bool,
+    pub changed: bool,
+    pub held: f64,
+    pub flexible: f64,
+}
+
+// The body of the Rust's first inner loop: a child below its minimum is fixed there.
+fn hold(k: Kid, changed: bool, held: f64, flexible: f64) -> Turn
+    ensures { λ r. ⌜ Turned k changed held flexible r ⌝ }
 {
     if k.fixed {
-        return k;
-    }
-    if k.size < k.minimum {
-        return Kid {
-            share: k.share,
-            minimum: k.minimum,
-            size: k.minimum,
+        return Turn {
+            size: k.size,
             fixed: true,
+            changed,
+            held: held + k.size,
+            flexible,
         };
     }
-    k
+    if k.size < k.minimum {
+        return Turn {
+            size: k.minimum,
+            fixed: true,
+            changed: true,
+            held: held + k.minimum,
+            flexible,
+        };
+    }
+    Turn {
+        size: k.size,
+        fixed: false,
+        changed,
+        held,
+        flexible: flexible + k.share,
+    }
 }
 
 // The body of the Rust's second inner loop: a flexible child's part of what remains.
-pub fn spread(k: Kid, room: f64, flex: f64) -> Kid
-    ensures { λ r. ⌜ r ≡ Rules.spread room flex k ⌝ }
+fn spread(k: Kid, room: f64, flex: f64) -> f64
+    ensures { λ r. ⌜ Rules.resized k r (k .fixed) ≡ Rules.spread room flex k ⌝ }
 {
     if k.fixed {
-        return k;
+        return k.size;
     }
-    Kid {
-        share: k.share,
-        minimum: k.minimum,
-        size: room * (k.share / flex),
-        fixed: false,
-    }
+    room * (k.share / flex)
 }
 
-// The Rust's first inner loop, as far as it changes the children. Its two sums are in sums.rt, over what this makes.
-pub fn pin_all(kids: [Kid; 16], n: usize) -> [Kid; 16]
-    requires { ⌜ n ≤ 16 ⌝ }
-    ensures { λ r. ⌜ take n r ≡ map Rules.pin (take n kids) ⌝ }
+// The Rust's first inner loop.
+pub fn hold_all(
+    shares: &[f64; 16],
+    minima: &[f64; 16],
+    sizes: &mut [f64; 16],
+    fixed: &mut [bool; 16],
+    n: usize,
+) -> Held
+    requires { ⌜ (n ≤ 16) × Long (now shares) (now minima) (now sizes) (now fixed) ⌝ }
+    ensures { λ r. ⌜ Worked Rules.pin n (now (shares .entry)) (now (minima .entry)) (now (sizes .entry)) (now (fixed .entry)) (now (sizes .exit)) (now (fixed .exit)) × Tallied (take n (kidsOf (now (shares .entry)) (now (minima .entry)) (now (sizes .entry)) (now (fixed .entry)))) r ⌝ }
 {
-    let mut ks = kids;
+    let mut changed = false;
+    let mut held = 0.0;
+    let mut flexible = 0.0;
     let mut i = 0usize;
     while i < n {
-        let k = ks[i];
-        ks[i] = pin(k);
+        let k = Kid {
+            share: shares[i],
+            minimum: minima[i],
+            size: sizes[i],
+            fixed: fixed[i],
+        };
+        let t = hold(k, changed, held, flexible);
+        sizes[i] = t.size;
+        fixed[i] = t.fixed;
+        changed = t.changed;
+        held = t.held;
+        flexible = t.flexible;
         i += 1;
     }
-    ks
+    Held {
+        changed,
+        held,
+        flexible,
+    }
 }
 
 // The Rust's second inner loop.
-pub fn spread_all(kids: [Kid; 16], n: usize, room: f64, flex: f64) -> [Kid; 16]
-    requires { ⌜ n ≤ 16 ⌝ }
-    ensures { λ r. ⌜ take n r ≡ map (Rules.spread room flex) (take n kids) ⌝ }
-{
-    let mut ks = kids;
-    let mut i = 0usize;
-    while i < n {
-        let k = ks[i];
-        ks[i] = spread(k, room, flex);
-        i += 1;
-    }
-    ks
-}
-
-// The Rust's `changed`: whether a run over these children holds one.
-pub fn any_short(kids: [Kid; 16], n: usize) -> bool
-    requires { ⌜ n ≤ 16 ⌝ }
-    ensures { λ r. ⌜ r ≡ Rules.anyShort (take n kids) ⌝ }
+pub fn spread_all(
+    shares: &[f64; 16],
+    minima: &[f64; 16],
+    sizes: &mut [f64; 16],
+    fixed: &[bool; 16],
+    n: usize,
+    room: f64,
+    flex: f64,
+)
+    requires { ⌜ (n ≤ 16) × Long (now shares) (now minima) (now sizes) (now fixed) ⌝ }
+    ensures { λ r. ⌜ Worked (Rules.spread room flex) n (now (shares .entry)) (now (minima .entry)) (now (sizes .entry)) (now (fixed .entry)) (now (sizes .exit)) (now (fixed .entry)) ⌝ }
 {
     let mut i = 0usize;
     while i < n {
-        let k = kids[i];
-        if !k.fixed {
-            if k.size < k.minimum {
-                return true;
-            }
-        }
-        i += 1;
-    }
-    false
-}
-
-// The Rust's first `lengths`, with `fixed` all false: each child at its part of the total.
-pub fn start(total: f64, whole: f64, shares: [f64; 16], minima: [f64; 16], n: usize) -> [Kid; 16]
-    requires { ⌜ n ≤ 16 ⌝ }
-    ensures { λ r. ⌜ take n r ≡ Rules.start total whole (take n shares) (take n minima) ⌝ }
-{
-    let z = Kid {
-        share: 0.0,
-        minimum: 0.0,
-        size: 0.0,
-        fixed: false,
-    };
-    let mut ks = [z; 16];
-    let mut i = 0usize;
-    while i < n {
-        let s = shares[i];
-        let m = minima[i];
         let k = Kid {
-            share: s,
-            minimum: m,
-            size: total * (s / whole),
-            fixed: false,
+            share: shares[i],
+            minimum: minima[i],
+            size: sizes[i],
+            fixed: fixed[i],
         };
-        ks[i] = k;
+        sizes[i] = spread(k, room, flex);
         i += 1;
     }
-    ks
-}
-
-// The Rust's `lengths` as they are handed back.
-pub fn sizes(kids: [Kid; 16], n: usize) -> [f64; 16]
-    requires { ⌜ n ≤ 16 ⌝ }
-    ensures { λ r. ⌜ Padded n (Rules.sizes (take n kids)) r ⌝ }
-{
-    let mut out = [0.0; 16];
-    let mut i = 0usize;
-    while i < n {
-        let k = kids[i];
-        out[i] = k.size;
-        i += 1;
-    }
-    out
 }

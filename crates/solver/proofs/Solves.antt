@@ -4,23 +4,29 @@ use mathlib.Core.Bool.{Bool, true, false, not, _&&_, cond}
 use mathlib.Core.List.{List, [], _∷_, map}
 use Prim.Native.Nat.{ℕ, _-_, _≤_, _<_}
 use native.Mathlib.Nat.{lt-irrefl}
+use native.Mathlib.Omega.{arith}
 use lib.Dec.{T, eqb, leb, leb→le, eqb→eq}
 use lib.ListN.{length, take, drop, replicate}
+use lib.Seq.{length-take-le}
 use lib.Ieee.{Float, binary64, div, lt, le, eq}
 use lib.Ieee.Fits.{and-l, and-r}
 use borrow.Author.Tests.{le-leb, lt-leb, eq-eqb, ne-eqb}
 use Rattle.rules.specs.Numbers.{zero-f, whole, plus, minimumOk, shareOk}
 use Rattle.rules.specs.Lists.{allOf}
 use Rattle.rules.specs.Tree.{reals}
-use Rattle.rules.specs.Solver.{sumOf, part, start, ran, run, Lengths, still, sizes, sized, tight, loose, solverOk, solveLengthsWithMin, solveBy, solved}
+use Rattle.rules.specs.Solver.{sumOf, part, start, run, Lengths, still, sizes, sized, tight, loose, solverOk, solveLengthsWithMin, solveBy, solved}
 use Rattle.rules.specs.Solver as Rules
 use Rattle.rules.specs.declared.model.Reals.{Reals}
 use Rattle.rules.specs.declared.solving.Kid.{Kid}
+use Rattle.solver.specs.Loop.{allFixed, begun, start-length, start-begins}
+use Rattle.solver.specs.Lent.{Ran}
 use Rattle.solver.specs.Demand.{solveSome}
 use Rattle.solver.specs.declared.Solved.{Solved}
 use Rattle.solver.specs.Call.{Clear, viewSolved, badInput}
 use Rattle.loops.specs.Padded.{Padded}
+use Rattle.loops.specs.Columns.{kidsOf, unfixed, Long}
 use Rattle.loops.proofs.Branches.{not-true, not-false}
+use Rattle.loops.proofs.Work.{sizes-taken, start-shown}
 
 -- ---- the input, test by test
 module _ (n m : ℕ) (total : Float) (ss ms : List Float) where
@@ -82,9 +88,36 @@ module _ (total least : Float) (ks : List Kid) where
   pub loose-rest : le least zero-f ≡ true → still (sizes ks) ≡ loose total least ks
   loose-rest e = λ i. cond (sym e i) (still (sizes ks)) (sized (run (length ks) total 0 ks))
 
-  pub loose-run : le least zero-f ≡ false → (n : ℕ) → length ks ≡ n → (last : List Kid) (p : ℕ) → ran last p ≡ run n total 0 ks → record { lengths = sizes last; passes = p } ≡ loose total least ks
-  loose-run e n l last p r =
-      ap sized r ∙ ap (λ (j : ℕ). sized (run j total 0 ks)) (sym l) ∙ (λ i. cond (sym e i) (still (sizes ks)) (sized (run (length ks) total 0 ks)))
+  pub loose-run : le least zero-f ≡ false → (n : ℕ) → length ks ≡ n → (l : Lengths) → l ≡ sized (run n total 0 ks) → l ≡ loose total least ks
+  loose-run e n k l r = r ∙ ap (λ (j : ℕ). sized (run j total 0 ks)) (sym k) ∙ (λ i. cond (sym e i) (still (sizes ks)) (sized (run (length ks) total 0 ks)))
+
+-- the lengths by the shares, and the children that they begin with
+module _ (total w : Float) (ss ms at : List Float) (n : ℕ) (some : 0 < n) (few : n ≤ 16) (ls : length ss ≡ 16) (lm : length ms ≡ 16) (la : length at ≡ 16) (is : w ≡ sumOf (take n ss)) (pad : Padded n (map (λ (s : Float). part total s w) (take n ss)) at) where
+  abbrev ks : List Kid
+  ks = begun total (take n ss) (take n ms)
+
+  paired : length (take n ss) ≡ length (take n ms)
+  paired = length-take-le n ss (omega arith) ∙ sym (length-take-le n ms (omega arith))
+
+  counted : length (take n ms) ≡ n
+  counted = length-take-le n ms (omega arith)
+
+  pub begun-long : Long ss ms at unfixed
+  begun-long = record { shares = ls; minima = lm; sizes = la; fixed = refl }
+
+  begun-shown : take n (kidsOf ss ms at unfixed) ≡ ks
+  begun-shown = start-shown total w ss ms at n ls few (pad .front) ∙ ap (λ (z : Float). start total z (take n ss) (take n ms)) is
+
+  pub begun-free : allFixed (take n (kidsOf ss ms at unfixed)) ≡ false
+  begun-free = ap allFixed begun-shown ∙ start-begins total (sumOf (take n ss)) (take n ss) (take n ms) (omega (arith, counted)) paired
+
+  pub begun-at : Padded n (sizes ks) at
+  begun-at = record { front = sym (sizes-taken ss ms at unfixed begun-long n) ∙ ap sizes begun-shown; back = pad .back }
+
+  pub begun-ran : (least : Float) → le least zero-f ≡ false → (xs : List Float) (p : ℕ) → Ran total n ss ms at xs p → record { lengths = take n xs; passes = p } ≡ loose total least ks
+  begun-ran least e xs p r =
+      loose-run total least ks e n (start-length total (sumOf (take n ss)) (take n ss) (take n ms) paired ∙ counted) (record { lengths = take n xs; passes = p })
+      (r .lengths ∙ ap (λ (z : List Kid). sized (run n total 0 z)) begun-shown)
 
 -- ---- the whole
 pub solve-none : (total : Float) (n : ℕ) (ss ms : List Float) → n ≡ 0 → still [] ≡ solveLengthsWithMin total (take n ss) ms
@@ -116,11 +149,11 @@ module _ (total : Float) (ss ms : List Float) (some : 0 < length ss) where
         ap (λ (l : Float). still (tight total l ms)) is-least
         ∙ (λ i. cond (sym b i) (still (tight total (sumOf ms) ms)) (loose total (sumOf ms) (start total (sumOf ss) ss ms))) ∙ rest-is
 
-    pub solve-loose : le total least ≡ false → (shared : Float) → shared ≡ sumOf ss → (kids : List Kid) → kids ≡ start total shared ss ms → loose total least kids ≡ solveLengthsWithMin total ss ms
+    pub solve-loose : le total least ≡ false → loose total least (begun total ss ms) ≡ solveLengthsWithMin total ss ms
     unfolding rest
-    solve-loose t shared is-shared kids is-kids =
+    solve-loose t =
         let b : le total (sumOf ms) ≡ false = ap (le total) (sym is-least) ∙ t in
-        ap (loose total least) is-kids ∙ (λ i. loose total (is-least i) (start total (is-shared i) ss ms))
+        (λ i. loose total (is-least i) (begun total ss ms))
         ∙ (λ i. cond (sym b i) (still (tight total (sumOf ms) ms)) (loose total (sumOf ms) (start total (sumOf ss) ss ms))) ∙ rest-is
 
 -- ---- the public call

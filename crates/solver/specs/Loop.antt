@@ -12,7 +12,7 @@ use lib.Ieee.{Float, binary64, add, lt, le}
 use lib.Ieee.Fits.{and-l, and-r}
 use Rattle.rules.specs.Numbers.{zero-f}
 use Rattle.rules.specs.Lists.{allOf}
-use Rattle.rules.specs.Solver.{sumBy, part, resized, short, flexible, pin, spread, anyShort, flexibleShareTotal, again, remaining, respread, Run, ran, run, start}
+use Rattle.rules.specs.Solver.{sumBy, sumOf, part, resized, short, flexible, pin, spread, anyShort, flexibleShareTotal, again, remaining, respread, Run, ran, run, start}
 use Rattle.rules.specs.declared.solving.Kid.{Kid}
 use Rattle.number.specs.Order.{le-self}
 
@@ -163,6 +163,9 @@ pub fuel-enough : (few lots : ℕ) (total : Float) (p : ℕ) (ks : List Kid) →
 fuel-enough few lots total p ks e h k = runs-unique (run-runs few total p ks e h) (run-runs lots total p ks e k)
 
 -- ---- the children that the loop begins with: none is held
+abbrev pub begun : Float → List Float → List Float → List Kid
+begun total ss ms = start total (sumOf ss) ss ms
+
 pub start-free : (total w : Float) (ss ms : List Float) → free (start total w ss ms) ≡ length (start total w ss ms)
 unfolding start free one
 start-free total w [] ms = refl

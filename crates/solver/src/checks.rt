@@ -2,16 +2,16 @@
 use rules::model::Reals;
 ghost use mathlib.Core.Path.{_≡_};
 ghost use Prim.Native.Nat.{_≤_};
-ghost use lib.ListN.{take};
+ghost use lib.ListN.{length, take};
 ghost use Rattle.rules.specs.Numbers.{shareOk, minimumOk};
 ghost use Rattle.rules.specs.Lists.{allOf};
 ghost use Rattle.rules.specs.Tree.{reals};
 ghost use Rattle.rules.specs.Solver.{solverOk};
 
 // The Rust's `shares.iter().all(..)`: every share finite and positive.
-pub fn shares_ok(xs: [f64; 16], n: usize) -> bool
-    requires { ⌜ n ≤ 16 ⌝ }
-    ensures { λ r. ⌜ r ≡ allOf shareOk (take n xs) ⌝ }
+pub fn shares_ok(xs: &[f64; 16], n: usize) -> bool
+    requires { ⌜ (n ≤ 16) × (length (now xs) ≡ 16) ⌝ }
+    ensures { λ r. ⌜ r ≡ allOf shareOk (take n (now (xs .entry))) ⌝ }
 {
     let mut i = 0usize;
     while i < n {
@@ -24,9 +24,9 @@ pub fn shares_ok(xs: [f64; 16], n: usize) -> bool
 }
 
 // The Rust's `min_major.iter().all(..)`: every minimum finite and not negative.
-pub fn minima_ok(xs: [f64; 16], n: usize) -> bool
-    requires { ⌜ n ≤ 16 ⌝ }
-    ensures { λ r. ⌜ r ≡ allOf minimumOk (take n xs) ⌝ }
+pub fn minima_ok(xs: &[f64; 16], n: usize) -> bool
+    requires { ⌜ (n ≤ 16) × (length (now xs) ≡ 16) ⌝ }
+    ensures { λ r. ⌜ r ≡ allOf minimumOk (take n (now (xs .entry))) ⌝ }
 {
     let mut i = 0usize;
     while i < n {
@@ -53,9 +53,9 @@ pub fn input_ok(total: f64, shares: Reals, minima: Reals) -> bool
         return false;
     }
     let by = shares.at;
-    if !shares_ok(by, n) {
+    if !shares_ok(&by, n) {
         return false;
     }
     let least = minima.at;
-    minima_ok(least, n)
+    minima_ok(&least, n)
 }

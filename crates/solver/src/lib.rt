@@ -4,21 +4,18 @@ mod checks;
 mod passes;
 
 use loops::fills;
-use loops::kids;
 use loops::sums;
 use rules::model::Reals;
 use rules::refusal::Answer;
 use rules::refusal::Refusal;
-use rules::solving::Kid;
 use rules::solving::Solution;
 ghost use mathlib.Core.Path.{_≡_};
-ghost use mathlib.Core.Bool.{false};
-ghost use Prim.Native.Nat.{_≤_};
-ghost use lib.ListN.{take};
+ghost use Prim.Native.Nat.{_≤_, _<_};
+ghost use lib.ListN.{length, take};
 ghost use Rattle.rules.specs.Tree.{reals};
 ghost use Rattle.rules.specs.Solver.{solveLengthsWithMin, viewSolution};
 ghost use Rattle.rules.specs.Solver as Rules;
-ghost use Rattle.solver.specs.Loop.{allFixed};
+ghost use Rattle.solver.specs.Loop.{begun};
 ghost use Rattle.solver.specs.Call.{Clear, viewSolved, badInput};
 ghost use Rattle.loops.specs.Padded.{Padded};
 
@@ -37,9 +34,9 @@ fn still(at: [f64; 16], n: usize) -> Solved
 }
 
 // The Rust's case `min_total >= total`: parts by the minima; equal parts where they are all zero.
-fn tight(total: f64, least: f64, minima: [f64; 16], n: usize) -> [f64; 16]
-    requires { ⌜ n ≤ 16 ⌝ }
-    ensures { λ r. ⌜ Padded n (Rules.tight total least (take n minima)) r ⌝ }
+fn tight(total: f64, least: f64, minima: &[f64; 16], n: usize) -> [f64; 16]
+    requires { ⌜ (n ≤ 16) × (length (now minima) ≡ 16) ⌝ }
+    ensures { λ r. ⌜ Padded n (Rules.tight total least (take n (now (minima .entry)))) r ⌝ }
 {
     if 0.0 < least {
         return fills::parts(minima, n, total, least);
@@ -48,31 +45,26 @@ fn tight(total: f64, least: f64, minima: [f64; 16], n: usize) -> [f64; 16]
     fills::even(n, even)
 }
 
-// The rest of the Rust's function, from `if min_total <= 0.0` on: the lengths by the shares, or what the outer loop makes of them.
-fn loose(total: f64, least: f64, kids: [Kid; 16], n: usize) -> Solved
-    requires { ⌜ (n ≤ 16) × (allFixed (take n kids) ≡ false) ⌝ }
-    ensures { λ r. ⌜ (viewSolved r ≡ Rules.loose total least (take n kids)) × (r .lengths .len ≡ n) × Clear (r .lengths) ⌝ }
+// The rest of the Rust's function, from `share_sum` on: the lengths by the shares, or what the outer loop makes of them.
+fn loose(total: f64, least: f64, shares: &[f64; 16], minima: &[f64; 16], n: usize) -> Solved
+    requires { ⌜ (0 < n) × (n ≤ 16) × (length (now shares) ≡ 16) × (length (now minima) ≡ 16) ⌝ }
+    ensures { λ r. ⌜ (viewSolved r ≡ Rules.loose total least (begun total (take n (now (shares .entry))) (take n (now (minima .entry))))) × (r .lengths .len ≡ n) × Clear (r .lengths) ⌝ }
 {
+    let share_sum = sums::sum(shares, n);
+    let mut at = fills::parts(shares, n, total, share_sum);
     if least <= 0.0 {
-        let at_once = kids::sizes(kids, n);
-        return still(at_once, n);
+        return still(at, n);
     }
-    let ran = passes::run(total, kids, n);
-    let held = ran.kids;
-    let at = kids::sizes(held, n);
+    let passes = passes::run(total, shares, minima, &mut at, n);
     let lengths = Reals { at, len: n };
-    Solved {
-        lengths,
-        passes: ran.passes,
-    }
+    Solved { lengths, passes }
 }
 
-// The Rust's `solve_lengths_with_min`, for up to 16 children.
-pub fn solve_lengths_with_min(total: f64, shares: Reals, minima: Reals) -> Solved
-    requires { ⌜ (shares .len ≤ 16) × (minima .len ≡ shares .len) ⌝ }
-    ensures { λ r. ⌜ (viewSolved r ≡ solveLengthsWithMin total (reals shares) (reals minima)) × (r .lengths .len ≡ shares .len) × Clear (r .lengths) ⌝ }
+// The Rust's `solve_lengths_with_min`, over the first n of lists that are lent.
+fn solve_lent(total: f64, shares: &[f64; 16], minima: &[f64; 16], n: usize) -> Solved
+    requires { ⌜ (n ≤ 16) × (length (now shares) ≡ 16) × (length (now minima) ≡ 16) ⌝ }
+    ensures { λ r. ⌜ (viewSolved r ≡ solveLengthsWithMin total (take n (now (shares .entry))) (take n (now (minima .entry)))) × (r .lengths .len ≡ n) × Clear (r .lengths) ⌝ }
 {
-    let n = shares.len;
     let none = [0.0; 16];
     if n == 0 {
         return still(none, n);
@@ -80,16 +72,22 @@ pub fn solve_lengths_with_min(total: f64, shares: Reals, minima: Reals) -> Solve
     if total == 0.0 {
         return still(none, n);
     }
-    let mins = minima.at;
-    let min_total = sums::sum(mins, n);
+    let min_total = sums::sum(minima, n);
     if total <= min_total {
-        let parts = tight(total, min_total, mins, n);
+        let parts = tight(total, min_total, minima, n);
         return still(parts, n);
     }
+    loose(total, min_total, shares, minima, n)
+}
+
+// The Rust's `solve_lengths_with_min`, for up to 16 children.
+pub fn solve_lengths_with_min(total: f64, shares: Reals, minima: Reals) -> Solved
+    requires { ⌜ (shares .len ≤ 16) × (minima .len ≡ shares .len) ⌝ }
+    ensures { λ r. ⌜ (viewSolved r ≡ solveLengthsWithMin total (reals shares) (reals minima)) × (r .lengths .len ≡ shares .len) × Clear (r .lengths) ⌝ }
+{
     let by = shares.at;
-    let share_sum = sums::sum(by, n);
-    let kids = kids::start(total, share_sum, by, mins, n);
-    loose(total, min_total, kids, n)
+    let least = minima.at;
+    solve_lent(total, &by, &least, shares.len)
 }
 
 // A refusal has no lengths and no passes.
@@ -116,9 +114,9 @@ pub fn solve(total: f64, shares: Reals, minima: Reals) -> Solution
     }
     let n = minima.len;
     let given = minima.at;
-    let at = fills::plus_all(given, n);
-    let least = Reals { at, len: n };
-    let solved = solve_lengths_with_min(number::plus_zero(total), shares, least);
+    let least = fills::plus_all(&given, n);
+    let by = shares.at;
+    let solved = solve_lent(number::plus_zero(total), &by, &least, n);
     let lengths = solved.lengths;
     let answer = Answer::Accepted;
     Solution {

@@ -1,48 +1,39 @@
 // The outer loop.
-use rules::solving::Kid;
 ghost use mathlib.Core.Path.{_≡_};
 ghost use Prim.Native.Nat.{_≤_};
 ghost use lib.ListN.{take};
 ghost use mathlib.Core.Bool.{false};
-ghost use Rattle.rules.specs.Solver as Rules;
+ghost use Rattle.loops.specs.Columns.{kidsOf, unfixed, Long};
+ghost use Rattle.solver.specs.Lent.{Ran};
 ghost use Rattle.solver.specs.Loop.{allFixed};
 
-// The children after the last run, and how many runs there were.
-pub struct Ran {
-    pub kids: [Kid; 16],
-    pub passes: u64,
-}
-
-// The Rust's `loop`. Every run but the last fixes one child more, so that n runs are enough: `left` only shows that it ends.
-// Each run is counted: specs/Loop.antt shows that none begins with every child fixed.
-pub fn run(total: f64, kids: [Kid; 16], n: usize) -> Ran
-    requires { ⌜ (n ≤ 16) × (allFixed (take n kids) ≡ false) ⌝ }
-    ensures { λ r. ⌜ Rules.ran (take n (r .kids)) (r .passes) ≡ Rules.run n total 0 (take n kids) ⌝ }
+// The Rust's `loop`, on the lengths by the shares; how many runs there were. Every run but the last fixes one child more, so that n runs are
+// enough: `left` only shows that it ends. Each run is counted: specs/Loop.antt shows that none begins with every child fixed.
+pub fn run(
+    total: f64,
+    shares: &[f64; 16],
+    minima: &[f64; 16],
+    sizes: &mut [f64; 16],
+    n: usize,
+) -> u64
+    requires { ⌜ (n ≤ 16) × Long (now shares) (now minima) (now sizes) unfixed × (allFixed (take n (kidsOf (now shares) (now minima) (now sizes) unfixed)) ≡ false) ⌝ }
+    ensures { λ r. ⌜ Ran total n (now (shares .entry)) (now (minima .entry)) (now (sizes .entry)) (now (sizes .exit)) r ⌝ }
 {
-    let mut ks = kids;
+    let mut fixed = [false; 16];
     let mut passes = 0u64;
     let mut left = n;
     while 0 < left {
-        let changed = loops::kids::any_short(ks, n);
-        let pinned = loops::kids::pin_all(ks, n);
+        let turn = loops::kids::hold_all(shares, minima, sizes, &mut fixed, n);
         passes += 1;
-        if !changed {
-            return Ran {
-                kids: pinned,
-                passes,
-            };
+        if !turn.changed {
+            return passes;
         }
-        let flex = loops::sums::flexible_share_total(pinned, n);
-        if flex <= 0.0 {
-            return Ran {
-                kids: pinned,
-                passes,
-            };
+        if turn.flexible <= 0.0 {
+            return passes;
         }
-        let room = number::larger(total - loops::sums::fixed_total(pinned, n), 0.0);
-        let next = loops::kids::spread_all(pinned, n, room, flex);
-        ks = next;
+        let room = number::larger(total - turn.held, 0.0);
+        loops::kids::spread_all(shares, minima, sizes, &fixed, n, room, turn.flexible);
         left -= 1;
     }
-    Ran { kids: ks, passes }
+    passes
 }

@@ -3,6 +3,7 @@ use mathlib.Core.Path.{_≡_, sym, _∙_}
 use mathlib.Core.Bool.{true}
 use native.Mathlib.Omega.{arith}
 use borrow.Author.Needs.{needs}
+use lib.ListN.{take}
 use Rattle.rules.specs.Tree.{reals}
 use Rattle.rules.specs.Solver.{solveLengthsWithMin, solverOk}
 use Rattle.solver.specs.Call.{viewSolved}
@@ -19,35 +20,42 @@ refused-requires c κs = search needs
 
 returns : tie.Need-returns
 returns c =
-    let a = c .before .before .before .args in
-    let q = c .before .before .input-ok in
-    (c .refused .ensures .0 ∙ solve-refused (a .total) (a .shares) (a .minima) (sym (q .ensures) ∙ not-true (q .result) (c .before .if1 .taken)), c .refused .ensures .1)
+    let q = c .before .before in
+    let a = q .before .args in
+    (c .refused .ensures .0 ∙ solve-refused (a .total) (a .shares) (a .minima) (sym (q .input-ok .ensures) ∙ not-true (q .input-ok .result) (c .before .if1 .taken)), c .refused .ensures .1)
 
 plus-all-requires : tie.Need-plus-all-requires
 plus-all-requires c κs =
-    let a = c .before .before .before .args in
-    let q = c .before .before .input-ok in
-    let f = ok-few (a .shares .len) (a .minima .len) (a .total) (reals (a .shares)) (reals (a .minima)) (sym (q .ensures) ∙ not-false (q .result) (c .before .if1 .left)) in
-    omega (arith, f .0, f .1)
+    let e = c .before .before in
+    let q = e .before in
+    let a = q .before .args in
+    let ok : solverOk (a .shares .len) (a .minima .len) (a .total) (reals (a .shares)) (reals (a .minima)) ≡ true = sym (q .input-ok .ensures) ∙ not-false (q .input-ok .result) (e .if1 .left) in
+    let f = ok-few (a .shares .len) (a .minima .len) (a .total) (reals (a .shares)) (reals (a .minima)) ok in
+    (omega (arith, f .0, f .1), search needs)
 
 plus-zero-requires : tie.Need-plus-zero-requires
 plus-zero-requires c κs = search needs
 
-solve-lengths-with-min-requires : tie.Need-solve-lengths-with-min-requires
-solve-lengths-with-min-requires c κs =
-    let a = c .before .before .before .before .before .args in
-    let q = c .before .before .before .before .input-ok in
-    ok-few (a .shares .len) (a .minima .len) (a .total) (reals (a .shares)) (reals (a .minima)) (sym (q .ensures) ∙ not-false (q .result) (c .before .before .before .if1 .left))
+solve-lent-requires : tie.Need-solve-lent-requires
+solve-lent-requires c κs =
+    let e = c .before .before .before .before .before .before .before in
+    let q = e .before in
+    let a = q .before .args in
+    let ok : solverOk (a .shares .len) (a .minima .len) (a .total) (reals (a .shares)) (reals (a .minima)) ≡ true = sym (q .input-ok .ensures) ∙ not-false (q .input-ok .result) (e .if1 .left) in
+    let f = ok-few (a .shares .len) (a .minima .len) (a .total) (reals (a .shares)) (reals (a .minima)) ok in
+    (omega (arith, f .0, f .1), search needs, search needs)
 
 returns-2 : tie.Need-returns-2
 returns-2 c =
-    let a = c .before .before .before .before .before .before .before .args in
-    let q = c .before .before .before .before .before .before .input-ok in
-    let ok : solverOk (a .shares .len) (a .minima .len) (a .total) (reals (a .shares)) (reals (a .minima)) ≡ true = sym (q .ensures) ∙ not-false (q .result) (c .before .before .before .before .before .if1 .left) in
-    let r = c .before .solve-lengths-with-min in
-    let t = c .before .before .plus-zero in
-    let m = c .before .before .before .plus-all in
-    (solve-accepted (a .total) (a .shares) (a .minima) ok (viewSolved (r .result)) (r .ensures .0 ∙ (λ i. solveLengthsWithMin (t .ensures i) (reals (a .shares)) (m .ensures .front i))), r .ensures .2)
+    let e = c .before .before .before .before .before .before .before .before .before in
+    let q = e .before in
+    let a = q .before .args in
+    let ok : solverOk (a .shares .len) (a .minima .len) (a .total) (reals (a .shares)) (reals (a .minima)) ≡ true = sym (q .input-ok .ensures) ∙ not-false (q .input-ok .result) (e .if1 .left) in
+    let f = ok-few (a .shares .len) (a .minima .len) (a .total) (reals (a .shares)) (reals (a .minima)) ok in
+    let r = c .before .solve-lent in
+    let t = c .before .before .before .before .plus-zero in
+    let m = c .before .before .before .before .before .before .plus-all in
+    (solve-accepted (a .total) (a .shares) (a .minima) ok (viewSolved (r .result)) (r .ensures .0 ∙ (λ i. solveLengthsWithMin (t .ensures i) (take (f .1 i) (a .shares .at)) (m .ensures .front i))), r .ensures .2)
 
 pub solve-spec : {M : Type 1} → statement M
 solve-spec =
@@ -58,5 +66,5 @@ solve-spec =
     returns
     plus-all-requires
     plus-zero-requires
-    solve-lengths-with-min-requires
+    solve-lent-requires
     returns-2)

@@ -12,28 +12,28 @@ use Rattle.loops.proofs.fills.parts.Statement.{statement}
 use Rattle.loops.proofs.fills.parts.Tie as tie
 
 abbrev Inv-loop : tie.InvT-loop
-Inv-loop n total whole xs out₀ i₀ out i = (i ≤ n) × Filled (λ (j : ℕ). map (λ (x : Float). part total x whole) (take j xs)) zeros out i
+Inv-loop xs n total whole lengths₀ i₀ lengths i = (i ≤ n) × Filled (λ (j : ℕ). map (λ (x : Float). part total x whole) (take j xs)) zeros lengths i
 
 abbrev μ-loop : tie.MeasureT-loop
-μ-loop n total whole xs out₀ i₀ out i = n - i
+μ-loop xs n total whole lengths₀ i₀ lengths i = n - i
 
 loop-holds : tie.Need-loop-holds Inv-loop μ-loop
 unfolding ofBits
 loop-holds c =
     let a = c .args in
-    (omega arith, filled-start (λ (j : ℕ). map (λ (x : Float). part (a .total) x (a .whole)) (take j (a .t1))) zeros refl)
+    (omega arith, filled-start (λ (j : ℕ). map (λ (x : Float). part (a .total) x (a .whole)) (take j (a .xs .now))) zeros refl)
 
-mul-out : tie.Need-mul-out Inv-loop μ-loop
-mul-out c = search needs
+mul-x : tie.Need-mul-x Inv-loop μ-loop
+mul-x c = search needs
 
-array-read-out : tie.Need-array-read-out Inv-loop μ-loop
-array-read-out c = search needs
+element-copy-out-x : tie.Need-element-copy-out-x Inv-loop μ-loop
+element-copy-out-x c = search needs
 
-mul-out-2 : tie.Need-mul-out-2 Inv-loop μ-loop
-mul-out-2 c = search needs
+mul-lengths : tie.Need-mul-lengths Inv-loop μ-loop
+mul-lengths c = search needs
 
-array-write-out : tie.Need-array-write-out Inv-loop μ-loop
-array-write-out c = search needs
+array-write-lengths : tie.Need-array-write-lengths Inv-loop μ-loop
+array-write-lengths c = search needs
 
 add-i : tie.Need-add-i Inv-loop μ-loop
 add-i c = search needs
@@ -43,17 +43,17 @@ loop-less c = search needs
 
 loop-again : tie.Need-loop-again Inv-loop μ-loop
 loop-again c =
-    let b = c .before in
+    let b = c .before .before in
     let a = b .before .args in
     let i = b .loop .i in
-    let h : i < length (a .t1) = omega (arith, b .before .good .0 .1 .0 .1) in
+    let h : i < length (a .xs .now) = omega (arith, b .before .pre .1) in
     let k : i < length zeros = omega (arith, zeros-long) in
-    (omega arith, filled-step (λ (j : ℕ). map (λ (x : Float). part (a .total) x (a .whole)) (take j (a .t1))) zeros (b .loop .out) i (part (a .total) (getD (a .t1) i nan) (a .whole)) k (map-more (λ (x : Float). part (a .total) x (a .whole)) (a .t1) i nan h) (b .loop .inv .1))
+    (omega arith, filled-step (λ (j : ℕ). map (λ (x : Float). part (a .total) x (a .whole)) (take j (a .xs .now))) zeros (b .loop .lengths) i (part (a .total) (getD (a .xs .now) i nan) (a .whole)) k (map-more (λ (x : Float). part (a .total) x (a .whole)) (a .xs .now) i nan h) (b .loop .inv .1))
 
 returns : tie.Need-returns Inv-loop μ-loop
 returns c =
     let a = c .before .before .args in
-    padded-end (λ (j : ℕ). map (λ (x : Float). part (a .total) x (a .whole)) (take j (a .t1))) (c .before .loop .out) (a .n) (c .before .loop .i) (c .loop-test .left) (c .before .loop .inv .0) (c .before .loop .inv .1)
+    padded-end (λ (j : ℕ). map (λ (x : Float). part (a .total) x (a .whole)) (take j (a .xs .now))) (c .before .loop .lengths) (a .n) (c .before .loop .i) (c .loop-test .left) (c .before .loop .inv .0) (c .before .loop .inv .1)
 
 pub parts-spec : {M : Type 1} → statement M
 parts-spec =
@@ -62,10 +62,10 @@ parts-spec =
     Inv-loop
     μ-loop
     loop-holds
-    mul-out
-    array-read-out
-    mul-out-2
-    array-write-out
+    mul-x
+    element-copy-out-x
+    mul-lengths
+    array-write-lengths
     add-i
     loop-less
     loop-again

@@ -12,22 +12,22 @@ use Rattle.loops.proofs.fills.plus_all.Statement.{statement}
 use Rattle.loops.proofs.fills.plus_all.Tie as tie
 
 abbrev Inv-loop : tie.InvT-loop
-Inv-loop n xs out₀ i₀ out i = (i ≤ n) × Filled (λ (j : ℕ). map plus (take j xs)) zeros out i
+Inv-loop xs n out₀ i₀ out i = (i ≤ n) × Filled (λ (j : ℕ). map plus (take j xs)) zeros out i
 
 abbrev μ-loop : tie.MeasureT-loop
-μ-loop n xs out₀ i₀ out i = n - i
+μ-loop xs n out₀ i₀ out i = n - i
 
 loop-holds : tie.Need-loop-holds Inv-loop μ-loop
 unfolding ofBits
 loop-holds c =
     let a = c .args in
-    (omega arith, filled-start (λ (j : ℕ). map plus (take j (a .t1))) zeros refl)
+    (omega arith, filled-start (λ (j : ℕ). map plus (take j (a .xs .now))) zeros refl)
 
 mul-plus-zero : tie.Need-mul-plus-zero Inv-loop μ-loop
 mul-plus-zero c = search needs
 
-array-read-plus-zero : tie.Need-array-read-plus-zero Inv-loop μ-loop
-array-read-plus-zero c = search needs
+element-copy-out-plus-zero : tie.Need-element-copy-out-plus-zero Inv-loop μ-loop
+element-copy-out-plus-zero c = search needs
 
 plus-zero-requires : tie.Need-plus-zero-requires Inv-loop μ-loop
 plus-zero-requires c κs = search needs
@@ -46,18 +46,18 @@ loop-less c = search needs
 
 loop-again : tie.Need-loop-again Inv-loop μ-loop
 loop-again c =
-    let b = c .before .before in
+    let b = c .before .before .before in
     let a = b .before .args in
     let i = b .loop .i in
-    let h : i < length (a .t1) = omega (arith, b .before .good .0 .1 .0 .1) in
+    let h : i < length (a .xs .now) = omega (arith, b .before .pre .1) in
     let k : i < length zeros = omega (arith, zeros-long) in
-    let e : map plus (take (i + 1) (a .t1)) ≡ map plus (take i (a .t1)) ++ (c .plus-zero .result ∷ []) = map-more plus (a .t1) i nan h ∙ ap (λ (x : Float). map plus (take i (a .t1)) ++ (x ∷ [])) (sym (c .plus-zero .ensures)) in
-    (omega arith, filled-step (λ (j : ℕ). map plus (take j (a .t1))) zeros (b .loop .out) i (c .plus-zero .result) k e (b .loop .inv .1))
+    let e : map plus (take (i + 1) (a .xs .now)) ≡ map plus (take i (a .xs .now)) ++ (c .plus-zero .result ∷ []) = map-more plus (a .xs .now) i nan h ∙ ap (λ (x : Float). map plus (take i (a .xs .now)) ++ (x ∷ [])) (sym (c .plus-zero .ensures)) in
+    (omega arith, filled-step (λ (j : ℕ). map plus (take j (a .xs .now))) zeros (b .loop .out) i (c .plus-zero .result) k e (b .loop .inv .1))
 
 returns : tie.Need-returns Inv-loop μ-loop
 returns c =
     let a = c .before .before .args in
-    padded-end (λ (j : ℕ). map plus (take j (a .t1))) (c .before .loop .out) (a .n) (c .before .loop .i) (c .loop-test .left) (c .before .loop .inv .0) (c .before .loop .inv .1)
+    padded-end (λ (j : ℕ). map plus (take j (a .xs .now))) (c .before .loop .out) (a .n) (c .before .loop .i) (c .loop-test .left) (c .before .loop .inv .0) (c .before .loop .inv .1)
 
 pub plus-all-spec : {M : Type 1} → statement M
 plus-all-spec =
@@ -67,7 +67,7 @@ plus-all-spec =
     μ-loop
     loop-holds
     mul-plus-zero
-    array-read-plus-zero
+    element-copy-out-plus-zero
     plus-zero-requires
     mul-out
     array-write-out

@@ -1,40 +1,52 @@
--- `kids::spread_all` meets its contract: the first i are changed, and the rest are as they were. Assumes nothing.
-use mathlib.Core.Path.{_≡_, refl, sym, ap, _∙_}
-use mathlib.Core.List.{List, [], _∷_, _++_, map}
-use Prim.Native.Nat.{ℕ, _-_, _+_, _≤_, _<_}
+-- `kids::spread_all` meets its contract: the first i are spread, and the rest are as they were. Assumes nothing.
+use Prim.Native.Nat.{_-_, _≤_}
 use native.Mathlib.Omega.{arith}
 use borrow.Author.Needs.{needs}
-use lib.ListN.{length, getD, take}
 use Rattle.rules.specs.Solver.{spread}
-use Rattle.rules.specs.declared.solving.Kid.{Kid}
-use Rattle.loops.proofs.Loops.{kid0}
-use Rattle.loops.proofs.Filling.{Filled, filled-start, filled-step, filled-read, filled-end, map-more}
+use Rattle.loops.proofs.Work.{Working, working-start, working-end, spread-step}
 use Rattle.loops.proofs.kids.spread_all.Statement.{statement}
 use Rattle.loops.proofs.kids.spread_all.Tie as tie
 
 abbrev Inv-loop : tie.InvT-loop
-Inv-loop n room flex ks₀ i₀ ks i = (i ≤ n) × Filled (λ (j : ℕ). map (spread room flex) (take j ks₀)) ks₀ ks i
+Inv-loop shares minima sizes₀ fixed n room flex i₀ sizes i = (i ≤ n) × Working (spread room flex) shares minima sizes₀ fixed sizes fixed i
 
 abbrev μ-loop : tie.MeasureT-loop
-μ-loop n room flex ks₀ i₀ ks i = n - i
+μ-loop shares minima sizes₀ fixed n room flex i₀ sizes i = n - i
 
 loop-holds : tie.Need-loop-holds Inv-loop μ-loop
-loop-holds c = (omega arith, filled-start (λ (j : ℕ). map (spread (c .args .room) (c .args .flex)) (take j (c .args .kids))) (c .args .kids) refl)
+loop-holds c =
+    let a = c .args in
+    (omega arith, working-start (spread (a .room) (a .flex)) (a .shares .now) (a .minima .now) (a .sizes .now) (a .fixed .now) (c .pre .1))
 
-mul-k : tie.Need-mul-k Inv-loop μ-loop
-mul-k c = search needs
+mul-sizes : tie.Need-mul-sizes Inv-loop μ-loop
+mul-sizes c = search needs
 
-array-copy-out-k : tie.Need-array-copy-out-k Inv-loop μ-loop
-array-copy-out-k c = search needs
+element-copy-out-sizes : tie.Need-element-copy-out-sizes Inv-loop μ-loop
+element-copy-out-sizes c = search needs
+
+mul-t15 : tie.Need-mul-t15 Inv-loop μ-loop
+mul-t15 c = search needs
+
+element-copy-out-t18 : tie.Need-element-copy-out-t18 Inv-loop μ-loop
+element-copy-out-t18 c = search needs
+
+mul-t19 : tie.Need-mul-t19 Inv-loop μ-loop
+mul-t19 c = search needs
+
+element-copy-out-t22 : tie.Need-element-copy-out-t22 Inv-loop μ-loop
+element-copy-out-t22 c = search needs
+
+element-copy-out-t10 : tie.Need-element-copy-out-t10 Inv-loop μ-loop
+element-copy-out-t10 c = search needs
 
 spread-requires : tie.Need-spread-requires Inv-loop μ-loop
 spread-requires c κs = search needs
 
-mul-ks : tie.Need-mul-ks Inv-loop μ-loop
-mul-ks c = search needs
+mul-sizes-2 : tie.Need-mul-sizes-2 Inv-loop μ-loop
+mul-sizes-2 c = search needs
 
-array-set-from-ks : tie.Need-array-set-from-ks Inv-loop μ-loop
-array-set-from-ks c = search needs
+element-write-sizes : tie.Need-element-write-sizes Inv-loop μ-loop
+element-write-sizes c = search needs
 
 add-i : tie.Need-add-i Inv-loop μ-loop
 add-i c = search needs
@@ -44,20 +56,18 @@ loop-less c = search needs
 
 loop-again : tie.Need-loop-again Inv-loop μ-loop
 loop-again c =
-    let b = c .before .before .before in
-    let a = b .before .args in
-    let i = b .loop .i in
-    let f = b .loop .inv .1 in
-    let p : ℕ → List Kid = λ (j : ℕ). map (spread (a .room) (a .flex)) (take j (a .kids)) in
-    let h : i < length (a .kids) = omega (arith, b .before .good .0 .1 .0 .1) in
-    let v : c .spread .result ≡ (spread (a .room) (a .flex)) (getD (a .kids) i kid0) = c .spread .ensures ∙ ap (spread (a .room) (a .flex)) (filled-read p (a .kids) (b .loop .ks) i kid0 f) in
-    let e : map (spread (a .room) (a .flex)) (take (i + 1) (a .kids)) ≡ map (spread (a .room) (a .flex)) (take i (a .kids)) ++ (c .spread .result ∷ []) = map-more (spread (a .room) (a .flex)) (a .kids) i kid0 h ∙ ap (λ (k : Kid). map (spread (a .room) (a .flex)) (take i (a .kids)) ++ (k ∷ [])) (sym v) in
-    (omega arith, filled-step p (a .kids) (b .loop .ks) i (c .spread .result) h e f)
+    let t = c .before .before .before .before .before in
+    let b = t .before in
+    let s = b .before in
+    let a = s .args in
+    (omega (arith, t .loop-test .taken), spread-step (a .room) (a .flex) (a .shares .now) (a .minima .now) (a .sizes .now) (a .fixed .now) (s .pre .1) (b .loop .sizes) (b .loop .i) (b .loop .inv .1) (omega (arith, t .loop-test .taken, s .pre .0)) (c .spread .result) (c .spread .ensures))
 
 returns : tie.Need-returns Inv-loop μ-loop
 returns c =
-    let a = c .before .before .args in
-    filled-end (λ (j : ℕ). map (spread (a .room) (a .flex)) (take j (a .kids))) (a .kids) (c .before .loop .ks) (a .n) (c .before .loop .i) (c .loop-test .left) (c .before .loop .inv .0) (c .before .loop .inv .1)
+    let b = c .before in
+    let s = b .before in
+    let a = s .args in
+    working-end (spread (a .room) (a .flex)) (a .shares .now) (a .minima .now) (a .sizes .now) (a .fixed .now) (s .pre .1) (b .loop .sizes) (a .fixed .now) (b .loop .i) (b .loop .inv .1) (a .n) (c .loop-test .left) (b .loop .inv .0)
 
 pub spread-all-spec : {M : Type 1} → statement M
 spread-all-spec =
@@ -66,11 +76,16 @@ spread-all-spec =
     Inv-loop
     μ-loop
     loop-holds
-    mul-k
-    array-copy-out-k
+    mul-sizes
+    element-copy-out-sizes
+    mul-t15
+    element-copy-out-t18
+    mul-t19
+    element-copy-out-t22
+    element-copy-out-t10
     spread-requires
-    mul-ks
-    array-set-from-ks
+    mul-sizes-2
+    element-write-sizes
     add-i
     loop-less
     loop-again

@@ -36,19 +36,27 @@ shares-ok-requires c κs = search needs
 
 returns-4 : tie.Need-returns-4
 returns-4 c =
-    let s = c .before .before .before .before .before .before .before .before in
-    let a = s .args in
-    ok-shares (a .shares .len) (a .minima .len) (a .total) (reals (a .shares)) (reals (a .minima)) (c .before .before .before .before .before .before .before .if1 .left) (c .before .before .before .before .before .if2 .left) (c .before .before .before .before .minimum-ok .result) (c .before .before .before .before .minimum-ok .ensures) (c .before .before .before .if3 .left) (c .before .shares-ok .result) (c .before .shares-ok .ensures) (c .if4 .taken)
+    let q = c .before .before .before .before in
+    let m = q .before in
+    let e = m .before in
+    let t = e .before .before in
+    let a = t .before .args in
+    ok-shares (a .shares .len) (a .minima .len) (a .total) (reals (a .shares)) (reals (a .minima)) (t .if1 .left) (e .if2 .left) (m .minimum-ok .result) (m .minimum-ok .ensures) (q .if3 .left) (c .before .shares-ok .result) (c .before .shares-ok .ensures) (c .if4 .taken)
 
 minima-ok-requires : tie.Need-minima-ok-requires
 minima-ok-requires c κs = search needs
 
 returns-5 : tie.Need-returns-5
 returns-5 c =
-    let s = c .before .before .before .before .before .before .before .before .before .before in
-    let a = s .args in
-    let e : a .minima .len ≡ a .shares .len = c .before .before .before .before .before .before .before .if2 .left in
-    ok-minima (a .shares .len) (a .minima .len) (a .total) (reals (a .shares)) (reals (a .minima)) (c .before .before .before .before .before .before .before .before .before .if1 .left) e (c .before .before .before .before .before .before .minimum-ok .result) (c .before .before .before .before .before .before .minimum-ok .ensures) (c .before .before .before .before .before .if3 .left) (c .before .before .before .shares-ok .result) (c .before .before .before .shares-ok .ensures) (c .before .before .if4 .left) (c .minima-ok .result) (c .minima-ok .ensures ∙ ap (λ (k : ℕ). allOf minimumOk (take k (a .minima .at))) (sym e))
+    let g = c .before .before .before in
+    let h = g .before in
+    let q = h .before .before .before in
+    let m = q .before in
+    let e = m .before in
+    let t = e .before .before in
+    let a = t .before .args in
+    let k : a .minima .len ≡ a .shares .len = e .if2 .left in
+    ok-minima (a .shares .len) (a .minima .len) (a .total) (reals (a .shares)) (reals (a .minima)) (t .if1 .left) k (m .minimum-ok .result) (m .minimum-ok .ensures) (q .if3 .left) (h .shares-ok .result) (h .shares-ok .ensures) (g .if4 .left) (c .minima-ok .result) (c .minima-ok .ensures ∙ ap (λ (k : ℕ). allOf minimumOk (take k (a .minima .at))) (sym k))
 
 pub input-ok-spec : {M : Type 1} → statement M
 input-ok-spec =

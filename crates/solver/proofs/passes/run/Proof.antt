@@ -1,61 +1,51 @@
 -- `passes::run` meets its contract: the invariant says what is left to run, and that the count stays small. Assumes nothing.
-use mathlib.Core.Path.{refl}
-use Prim.Native.Nat.{_+_, _≤_}
-use native.Mathlib.Omega.{arith}
 use borrow.Author.Needs.{needs}
-use lib.ListN.{take}
 use lib.Ieee.{ofBits}
-use Rattle.rules.specs.Solver.{run}
-use Rattle.solver.proofs.Runs.{Left, stop-none, stop-flex, go-on, run-out}
+use Rattle.solver.proofs.Runs.{Running, running-start, running-on, ended-none, ended-flex, ended-out}
 use Rattle.solver.proofs.passes.run.Statement.{statement}
 use Rattle.solver.proofs.passes.run.Tie as tie
 
 abbrev Inv-loop : tie.InvT-loop
-Inv-loop total n ks₀ passes₀ left₀ ks passes left = (passes + left ≤ 32) × Left total (run n total 0 (take n ks₀)) left passes (take n ks)
+Inv-loop total shares minima sizes₀ n fixed₀ passes₀ left₀ sizes fixed passes left = Running total n shares minima sizes₀ sizes fixed passes left
 
 abbrev μ-loop : tie.MeasureT-loop
-μ-loop total n ks₀ passes₀ left₀ ks passes left = left
+μ-loop total shares minima sizes₀ n fixed₀ passes₀ left₀ sizes fixed passes left = left
 
 loop-holds : tie.Need-loop-holds Inv-loop μ-loop
-loop-holds c = (omega arith, record { begins = c .pre .1; so-far = refl })
+loop-holds c = let a = c .args in running-start (a .total) (a .n) (a .shares .now) (a .minima .now) (a .sizes .now) (c .pre .0) (c .pre .1) (c .pre .2)
 
-any-short-requires : tie.Need-any-short-requires Inv-loop μ-loop
-any-short-requires c κs = search needs
-
-pin-all-requires : tie.Need-pin-all-requires Inv-loop μ-loop
-pin-all-requires c κs = search needs
+hold-all-requires : tie.Need-hold-all-requires Inv-loop μ-loop
+hold-all-requires c κs = let b = c .before .before .before in (b .before .pre .0, b .loop .inv .long)
 
 add-passes : tie.Need-add-passes Inv-loop μ-loop
 add-passes c = search needs
 
 returns : tie.Need-returns Inv-loop μ-loop
 returns c =
-    let w = c .before in
-    let b = w .before .before .before in
+    let h = c .before .before in
+    let t = h .before .before .before in
+    let b = t .before in
     let a = b .before .args in
-    let R = run (a .n) (a .total) 0 (take (a .n) (a .kids)) in
-    stop-none (b .loop .left) (a .total) (b .loop .passes) (take (a .n) (b .loop .ks)) (take (a .n) (w .pin-all .result)) R (w .before .before .loop-test .taken) (b .loop .inv .1) (w .before .any-short .result) (w .before .any-short .ensures) (w .pin-all .ensures) (c .if1 .taken)
-
-flexible-share-total-requires : tie.Need-flexible-share-total-requires Inv-loop μ-loop
-flexible-share-total-requires c κs = search needs
+    let k = h .hold-all in
+    ended-none (a .total) (a .n) (a .shares .now) (a .minima .now) (a .sizes .now) (b .loop .sizes) (b .loop .fixed) (b .loop .passes) (b .loop .left) (b .loop .inv) (t .loop-test .taken) (k .last .1 .1 .0) (k .last .1 .1 .1 .0) (k .result) (k .ensures .0) (k .ensures .1) (c .if1 .taken)
 
 returns-2 : tie.Need-returns-2 Inv-loop μ-loop
 unfolding ofBits
 returns-2 c =
-    let w = c .before .before .before in
-    let b = w .before .before .before in
+    let h = c .before .before .before .before in
+    let t = h .before .before .before in
+    let b = t .before in
     let a = b .before .args in
-    let R = run (a .n) (a .total) 0 (take (a .n) (a .kids)) in
-    stop-flex (b .loop .left) (a .total) (b .loop .passes) (take (a .n) (b .loop .ks)) (take (a .n) (w .pin-all .result)) R (w .before .before .loop-test .taken) (b .loop .inv .1) (w .before .any-short .result) (w .before .any-short .ensures) (w .pin-all .ensures) (c .before .flexible-share-total .result) (c .before .flexible-share-total .ensures) (c .if2 .taken)
-
-fixed-total-requires : tie.Need-fixed-total-requires Inv-loop μ-loop
-fixed-total-requires c κs = search needs
+    let k = h .hold-all in
+    ended-flex (a .total) (a .n) (a .shares .now) (a .minima .now) (a .sizes .now) (b .loop .sizes) (b .loop .fixed) (b .loop .passes) (b .loop .left) (b .loop .inv) (t .loop-test .taken) (k .last .1 .1 .0) (k .last .1 .1 .1 .0) (k .result) (k .ensures .0) (k .ensures .1) (c .if2 .taken)
 
 larger-requires : tie.Need-larger-requires Inv-loop μ-loop
 larger-requires c κs = search needs
 
 spread-all-requires : tie.Need-spread-all-requires Inv-loop μ-loop
-spread-all-requires c κs = search needs
+spread-all-requires c κs =
+    let h = c .before .before .before .before .before .before .before .before in
+    (h .before .before .before .before .before .pre .0, h .hold-all .ensures .0 .long)
 
 sub-left : tie.Need-sub-left Inv-loop μ-loop
 sub-left c = search needs
@@ -66,18 +56,20 @@ loop-less c = search needs
 loop-again : tie.Need-loop-again Inv-loop μ-loop
 unfolding ofBits
 loop-again c =
-    let x = c .before .before .before in
-    let w = x .before .before .before in
-    let b = w .before .before .before in
+    let l = c .before .before .before in
+    let e = l .before .before in
+    let h = e .before .before .before .before in
+    let t = h .before .before .before in
+    let b = t .before in
     let a = b .before .args in
-    let R = run (a .n) (a .total) 0 (take (a .n) (a .kids)) in
-    (omega arith, go-on (b .loop .left) (a .total) (b .loop .passes) (take (a .n) (b .loop .ks)) (take (a .n) (w .pin-all .result)) R (w .before .before .loop-test .taken) (b .loop .inv .1) (w .before .any-short .result) (w .before .any-short .ensures) (w .pin-all .ensures) (x .before .flexible-share-total .result) (x .before .flexible-share-total .ensures) (x .before .before .if1 .left) (x .if2 .left) (c .before .before .fixed-total .result) (c .before .larger .result) (take (a .n) (c .spread-all .result)) (c .before .before .fixed-total .ensures) (c .before .larger .ensures) (c .spread-all .ensures))
+    let k = h .hold-all in
+    running-on (a .total) (a .n) (a .shares .now) (a .minima .now) (a .sizes .now) (b .loop .sizes) (b .loop .fixed) (b .loop .passes) (b .loop .left) (b .loop .inv) (t .loop-test .taken) (k .last .1 .1 .0) (k .last .1 .1 .1 .0) (k .result) (k .ensures .0) (k .ensures .1) (e .before .before .if1 .left) (e .if2 .left) (l .larger .result) (l .larger .ensures) (c .spread-all .last .1 .1 .0) (c .spread-all .ensures)
 
 returns-3 : tie.Need-returns-3 Inv-loop μ-loop
 returns-3 c =
     let b = c .before in
     let a = b .before .args in
-    run-out (a .total) (run (a .n) (a .total) 0 (take (a .n) (a .kids))) (b .loop .left) (b .loop .passes) (take (a .n) (b .loop .ks)) (omega arith) (b .loop .inv .1)
+    ended-out (a .total) (a .n) (a .shares .now) (a .minima .now) (a .sizes .now) (b .loop .sizes) (b .loop .fixed) (b .loop .passes) (b .loop .left) (b .loop .inv) (c .loop-test .left)
 
 pub run-spec : {M : Type 1} → statement M
 run-spec =
@@ -86,13 +78,10 @@ run-spec =
     Inv-loop
     μ-loop
     loop-holds
-    any-short-requires
-    pin-all-requires
+    hold-all-requires
     add-passes
     returns
-    flexible-share-total-requires
     returns-2
-    fixed-total-requires
     larger-requires
     spread-all-requires
     sub-left
