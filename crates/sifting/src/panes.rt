@@ -59,7 +59,7 @@ pub struct Sift {
 // The closure of `tabs.panes.retain`, at one pane.
 fn keep_pane(
     seen: &mut [u64; 1024],
-    acts: &mut [[u64; 3]; 1300],
+    acts: &mut [[u64; 3]],
     s: Sift,
     id: u64,
     pane: u64,
@@ -94,7 +94,7 @@ fn keep_pane(
 // `tabs.panes.retain`
 pub fn retain(
     seen: &mut [u64; 1024],
-    acts: &mut [[u64; 3]; 1300],
+    acts: &mut [[u64; 3]],
     c: Counts,
     id: u64,
     panes: Ids,
