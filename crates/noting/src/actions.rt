@@ -62,14 +62,7 @@ fn is_listed(acts: &[[u64; 3]], n: usize, what: u64, tile: u64, pane: u64) -> bo
 }
 
 // RepairSink::record, where `yes` says that there is something to record: the number of actions after it.
-pub fn note_if(
-    acts: &mut [[u64; 3]],
-    n: usize,
-    yes: bool,
-    what: u64,
-    tile: u64,
-    pane: u64,
-) -> usize
+pub fn note_if(acts: &mut [[u64; 3]], n: usize, yes: bool, what: u64, tile: u64, pane: u64) -> usize
     requires { ⌜ n < 1300 ⌝ }
     ensures { λ r. ⌜ ((a : RepairAction) → actionCode a ≡ what → actionTile a .slot ≡ tile → actionPane a ≡ pane → Noted yes a (now (acts .entry)) n (now (acts .exit)) r) ⌝ }
 {
