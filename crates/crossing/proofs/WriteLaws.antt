@@ -1,6 +1,6 @@
 -- Laws of actions written over the front of an array. Assumes nothing.
 use mathlib.Core.Path.{_≡_, sym, ap, _∙_}
-use mathlib.Core.List.{List, [], _∷_, _++_, append-assoc}
+use mathlib.Core.List.{List, [], _∷_, _++_, map, append-assoc}
 use Prim.Native.Nat.{ℕ, suc, _+_, _≤_, _<_}
 use native.Mathlib.Omega.{arith}
 use native.Mathlib.Numerals.{add-one}
@@ -29,9 +29,10 @@ module _ {A : Type 0} (s l₀ : List A) where
 -- the first n of a list, which are these actions
 pub writes : (list acts acts′ : List (List ℕ)) (n i : ℕ) → length list ≡ 1300 → n ≤ 1300 → i ≤ n → n ≤ i → Over list acts i acts′ → (l : List RepairAction) → Lists list n l → Writes l acts acts′ n
 writes list acts acts′ n i size few h g o l L =
+    let front : take n list ≡ map codeOf l = L size in
     let same : i ≡ n = omega arith in
-    let count : n ≡ length l = sym (length-take-le n list (omega (arith, size, few))) ∙ ap length L ∙ length-map l codeOf in
+    let count : n ≡ length l = sym (length-take-le n list (omega (arith, size, few))) ∙ ap length front ∙ length-map l codeOf in
     record {
       count = count;
-      list = o ∙ ap (λ (k : ℕ). take k list ++ drop k acts) same ∙ (λ z. L z ++ drop (count z) acts);
+      list = o ∙ ap (λ (k : ℕ). take k list ++ drop k acts) same ∙ (λ z. front z ++ drop (count z) acts);
     }

@@ -21,7 +21,7 @@ ghost use Rattle.sifting.specs.Walked.{Even};
 ghost use Rattle.melting.specs.Splits.{BadNoted, PlacesIn, ClosesIn, emptyHead, Stored};
 
 // The bad lists of a split: k as they were given, l as they were mended.
-pub fn split_noted(acts: &mut [[u64; 3]; 1300], n: usize, id: u64, k: Kids, l: Kids) -> usize
+pub fn split_noted(acts: &mut [[u64; 3]], n: usize, id: u64, k: Kids, l: Kids) -> usize
     requires { ⌜ (n + 2 ≤ 1300) × (k .children .len ≤ 16) × (k .shares .len ≤ 16) × (k .minima .len ≤ 16) × (l .children .len ≤ 16) × (l .shares .len ≤ 16) × (l .minima .len ≤ 16) ⌝ }
     ensures { λ r. ⌜ BadNoted id k l (now (acts .entry)) n (now (acts .exit)) r ⌝ }
 {
@@ -42,7 +42,7 @@ fn place_at(
     ids: &[[u64; 16]; 64],
     shares: &[[f64; 16]; 64],
     minima: &[[f64; 16]; 64],
-    acts: &mut [[u64; 3]; 1300],
+    acts: &mut [[u64; 3]],
     c: Counts,
     mode: u64,
     k: Kids,
@@ -85,7 +85,7 @@ pub fn place(
     ids: &[[u64; 16]; 64],
     shares: &[[f64; 16]; 64],
     minima: &[[f64; 16]; 64],
-    acts: &mut [[u64; 3]; 1300],
+    acts: &mut [[u64; 3]],
     c: Counts,
     mode: u64,
     k: Kids,
@@ -175,7 +175,7 @@ fn keep_split(
     ids: &mut [[u64; 16]; 64],
     shares: &mut [[f64; 16]; 64],
     minima: &mut [[f64; 16]; 64],
-    acts: &mut [[u64; 3]; 1300],
+    acts: &mut [[u64; 3]],
     c: Counts,
     id: u64,
     mode: u64,
@@ -215,7 +215,7 @@ pub fn split_done(
     ids: &mut [[u64; 16]; 64],
     shares: &mut [[f64; 16]; 64],
     minima: &mut [[f64; 16]; 64],
-    acts: &mut [[u64; 3]; 1300],
+    acts: &mut [[u64; 3]],
     c: Counts,
     id: u64,
     mode: u64,

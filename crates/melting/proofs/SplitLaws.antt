@@ -302,8 +302,8 @@ pub bad-noted : (id : ℕ) (k l : Kids) (b d : Bool) (acts acts₁ acts₂ : Lis
 bad-noted id k l b d acts acts₁ acts₂ n n₁ n₂ p q x y =
     record {
       most = omega (arith, x .most, y .most);
-      lists = λ w h.
-          y .lists (addedIf b (RepairedConstraints (tile id)) (w .actions)) (x .lists (w .actions) h)
+      lists = λ w h whole.
+          y .lists (addedIf b (RepairedConstraints (tile id)) (w .actions)) (x .lists (w .actions) h) whole
           ∙ (λ i. map codeOf (addedIf (q i) (RepairedShares (tile id)) (addedIf (p i) (RepairedConstraints (tile id)) (w .actions))));
     }
 

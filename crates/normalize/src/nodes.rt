@@ -54,7 +54,7 @@ fn open_split(
     shares: &[[f64; 16]; 64],
     minima: &[[f64; 16]; 64],
     claimed: &mut [bool; 64],
-    acts: &mut [[u64; 3]; 1300],
+    acts: &mut [[u64; 3]],
     c: Counts,
     id: u64,
 ) -> Opened
@@ -94,7 +94,7 @@ pub fn normalize_node(
     minima: &mut [[f64; 16]; 64],
     claimed: &mut [bool; 64],
     seen: &mut [u64; 1024],
-    acts: &mut [[u64; 3]; 1300],
+    acts: &mut [[u64; 3]],
     c: Counts,
     id: u64,
 ) -> Walk
@@ -130,7 +130,7 @@ fn normalize_split(
     minima: &mut [[f64; 16]; 64],
     claimed: &mut [bool; 64],
     seen: &mut [u64; 1024],
-    acts: &mut [[u64; 3]; 1300],
+    acts: &mut [[u64; 3]],
     c: Counts,
     id: u64,
 ) -> Walk

@@ -8,7 +8,7 @@ use native.Mathlib.Numerals.{add-one}
 use native.Mathlib.Omega.{arith}
 use borrow.Author.Tests.{eq-eqb, ne-eqb}
 use lib.Dec.{eqb}
-use lib.ListN.{length, take, getD, set}
+use lib.ListN.{length, take, getD, set, length-set}
 use lib.Seq.{take-suc-set, getD-take, length-take-le}
 use Rattle.rules.specs.Lists.{anyOf}
 use Rattle.rules.specs.Repair.{actionCode, actionTile, actionPane, sameAction, addedBy, added}
@@ -51,22 +51,28 @@ listed-same a [] = refl
 listed-same a (b ∷ l) = ap (λ (t : Bool). sameAction a b || t) (listed-same a l)
 
 module _ (acts : List (List ℕ)) (n what t p : ℕ) (a : RepairAction) (ec : actionCode a ≡ what) (et : actionTile a .slot ≡ t) (ep : actionPane a ≡ p) where
-  known : (l : List RepairAction) → Lists acts n l → anyOf (sameAction a) l ≡ listed what t p (take n acts)
+  known : (l : List RepairAction) → take n acts ≡ map codeOf l → anyOf (sameAction a) l ≡ listed what t p (take n acts)
   known l e = listed-same a l ∙ (λ z. listed (ec z) (et z) (ep z) (sym e z))
 
   pub noted-not : Noted false a acts n acts n
   noted-not = record { most = omega arith; lists = λ l e. e }
 
+  -- in a list that is silent
+  pub noted-silent : (b : Bool) → (length acts ≡ 1300 → ⊥) → Noted b a acts n acts n
+  noted-silent b short = record { most = omega arith; lists = λ l L whole. absurd (short whole) }
+
   pub noted-listed : listed what t p (take n acts) ≡ true → Noted true a acts n acts n
   unfolding added
-  noted-listed y = record { most = omega arith; lists = λ l e. e ∙ ap (λ (b : Bool). map codeOf (addedBy b a l)) (sym (known l e ∙ y)) }
+  noted-listed y =
+      record { most = omega arith; lists = λ l L whole. let e = L whole in e ∙ ap (λ (b : Bool). map codeOf (addedBy b a l)) (sym (known l e ∙ y)) }
 
   pub noted-new : listed what t p (take n acts) ≡ false → n < length acts → Noted true a acts n (set acts n (what ∷ t ∷ p ∷ [])) (n + 1)
   unfolding added
   noted-new y h =
       record {
         most = omega arith;
-        lists = λ l e.
+        lists = λ l L whole.
+            let e : take n acts ≡ map codeOf l = L (sym (length-set acts n (what ∷ t ∷ p ∷ [])) ∙ whole) in
             ap (λ (k : ℕ). take k (set acts n (what ∷ t ∷ p ∷ []))) (add-one n)
             ∙ take-suc-set acts n (what ∷ t ∷ p ∷ []) h
             ∙ (λ z. e z ++ (sym ec z ∷ sym et z ∷ sym ep z ∷ []) ∷ [])

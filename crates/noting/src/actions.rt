@@ -1,4 +1,5 @@
 // The list of actions: the Rust's RepairSink. An action is three numbers: what was done, to which tile, and the pane of a duplicate (else 0).
+// A list of 1,300 places, which always suffice, is the Rust's sink with a list. One of any other length is its sink without: nothing is noted in it.
 ghost use mathlib.Core.Path.{_≡_};
 ghost use mathlib.Core.Bool.{Bool};
 ghost use Prim.Native.Nat.{_+_, _≤_, _<_};
@@ -45,11 +46,10 @@ fn same(a: [u64; 3], what: u64, tile: u64, pane: u64) -> bool
 }
 
 // Whether an action is in the list already: the Rust's `actions.contains(&action)`.
-fn is_listed(acts: &[[u64; 3]; 1300], n: usize, what: u64, tile: u64, pane: u64) -> bool
-    requires { ⌜ n ≤ 1300 ⌝ }
+fn is_listed(acts: &[[u64; 3]], n: usize, what: u64, tile: u64, pane: u64) -> bool
+    requires { ⌜ n ≤ length (now acts) ⌝ }
     ensures { λ r. ⌜ r ≡ listed what tile pane (take n (now (acts .entry))) ⌝ }
 {
-    sized(acts);
     let mut i = 0usize;
     while i < n {
         let a = acts[i];
@@ -62,30 +62,25 @@ fn is_listed(acts: &[[u64; 3]; 1300], n: usize, what: u64, tile: u64, pane: u64)
 }
 
 // RepairSink::record, where `yes` says that there is something to record: the number of actions after it.
-pub fn note_if(
-    acts: &mut [[u64; 3]; 1300],
-    n: usize,
-    yes: bool,
-    what: u64,
-    tile: u64,
-    pane: u64,
-) -> usize
+pub fn note_if(acts: &mut [[u64; 3]], n: usize, yes: bool, what: u64, tile: u64, pane: u64) -> usize
     requires { ⌜ n < 1300 ⌝ }
     ensures { λ r. ⌜ ((a : RepairAction) → actionCode a ≡ what → actionTile a .slot ≡ tile → actionPane a ≡ pane → Noted yes a (now (acts .entry)) n (now (acts .exit)) r) ⌝ }
 {
     if !yes {
         return n;
     }
+    if acts.len() != 1300 {
+        return n;
+    }
     if is_listed(acts, n, what, tile, pane) {
         return n;
     }
-    sized(acts);
     acts[n] = [what, tile, pane];
     n + 1
 }
 
 // RepairSink::record
-pub fn note(acts: &mut [[u64; 3]; 1300], n: usize, what: u64, tile: u64, pane: u64) -> usize
+pub fn note(acts: &mut [[u64; 3]], n: usize, what: u64, tile: u64, pane: u64) -> usize
     requires { ⌜ n < 1300 ⌝ }
     ensures { λ r. ⌜ ((a : RepairAction) → actionCode a ≡ what → actionTile a .slot ≡ tile → actionPane a ≡ pane → Noted Bool.true a (now (acts .entry)) n (now (acts .exit)) r) ⌝ }
 {

@@ -4,8 +4,8 @@ ghost use mathlib.Core.Path.{_≡_};
 ghost use mathlib.Core.Bool.{false, not, _||_};
 ghost use Prim.Native.Nat.{_+_, _≤_, _<_};
 ghost use lib.Dec.{eqb};
-ghost use lib.ListN.{length, getD};
-ghost use mathlib.Core.List.{List};
+ghost use lib.ListN.{length, getD, set};
+ghost use mathlib.Core.List.{List, []};
 ghost use Prim.Native.Nat.{ℕ};
 ghost use lib.Ieee.{Float};
 ghost use Rattle.rules.specs.Tree.{emptySlots};
@@ -22,18 +22,22 @@ fn is_lost(kept: bool, h: [u64; 8]) -> bool
     h[0] != 0
 }
 
-// A head as the sweep leaves it.
-fn swept_head(kept: bool, h: [u64; 8]) -> [u64; 8]
-    ensures { λ r. ⌜ r ≡ sweptHead kept h ⌝ }
+// A head as the sweep leaves it: one that is kept is not written again.
+fn empty_unless(heads: &mut [[u64; 8]; 64], i: usize, kept: bool)
+    requires { ⌜ (length (now heads) ≡ 64) × (i < 64) ⌝ }
+    ensures { λ r. ⌜ now (heads .exit) ≡ set (now (heads .entry)) i (sweptHead kept (getD (now (heads .entry)) i [])) ⌝ }
 {
-    if kept { h } else { [0u64; 8] }
+    if kept {
+        return;
+    }
+    heads[i] = [0u64; 8];
 }
 
 // What the walk did not claim is emptied, and listed where it was occupied.
 pub fn sweep(
     heads: &mut [[u64; 8]; 64],
     claimed: &[bool; 64],
-    acts: &mut [[u64; 3]; 1300],
+    acts: &mut [[u64; 3]],
     n: usize,
 ) -> usize
     requires { ⌜ (length (now heads) ≡ 64) × (length (now claimed) ≡ 64) × (n + 64 ≤ 1300) ⌝ }
@@ -46,8 +50,7 @@ pub fn sweep(
         let kept = claimed[i];
         let lost = is_lost(kept, h);
         m = actions::note_if(acts, m, lost, actions::REMOVED_INVALID_NODE, i as u64, 0);
-        let next = swept_head(kept, h);
-        heads[i] = next;
+        empty_unless(heads, i, kept);
         i += 1;
     }
     m

@@ -41,7 +41,8 @@ pub fn change(
     if revision == 18446744073709551615 {
         return refused(root, revision, Refusal::RevisionExhausted);
     }
-    let mut acts = [[0u64; 3]; 1300];
+    // Nobody reads the actions of an operation's repair: a list that has not 1,300 places is silent, as the Rust's sink without a list.
+    let mut acts = [[0u64; 3]; 1];
     let done = settle::settle(top, spare, heads, ids, shares, minima, &mut acts);
     let answer = done.answer;
     match answer {

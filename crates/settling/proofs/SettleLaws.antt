@@ -73,7 +73,7 @@ refused-comes a x hs xs ss ms acts e r R q =
     record {
       answer = R .answer ∙ sym (ap (λ (y : Repaired). y .answer) q);
       tree = λ p. absurd (not-both p (R .answer));
-      actions = (λ z. take (R .count z) acts) ∙ sym (ap (λ (y : Repaired). map codeOf (y .actions)) q);
+      actions = λ whole. (λ z. take (R .count z) acts) ∙ sym (ap (λ (y : Repaired). map codeOf (y .actions)) q);
       given = λ f p. (ap (λ (y : Repaired). y .tree) q, ap (λ (y : Repaired). y .actions) q);
     }
 

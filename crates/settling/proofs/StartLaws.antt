@@ -62,7 +62,7 @@ module _ (hs xs : List (List ℕ)) (ss ms : List (List Float)) (seen : List ℕ)
   start-sized a b c d s = record { heads = a; ids = b; shares = c; minima = d; flags = refl; slim = s; panes = omega arith; listing = omega arith }
 
   pub start-shows : (ns : List Node) → nodesFrom hs xs ss ms ≡ ns → Shows start (begin ns)
-  start-shows ns e = record { nodes = sym e; claimed = refl; panes = refl; actions = refl }
+  start-shows ns e = record { nodes = sym e; claimed = refl; panes = refl; actions = λ whole. refl }
 
 -- ---- the columns of slots
 

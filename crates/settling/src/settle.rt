@@ -30,7 +30,7 @@ fn refused(e: Refusal) -> Settled
 fn finish(
     heads: &mut [[u64; 8]; 64],
     claimed: &[bool; 64],
-    acts: &mut [[u64; 3]; 1300],
+    acts: &mut [[u64; 3]],
     n: usize,
     root: u64,
 ) -> Settled
@@ -49,7 +49,7 @@ fn finish(
 fn plant(
     heads: &mut [[u64; 8]; 64],
     claimed: &mut [bool; 64],
-    acts: &mut [[u64; 3]; 1300],
+    acts: &mut [[u64; 3]],
     n: usize,
     spare: u64,
 ) -> Settled
@@ -73,7 +73,7 @@ pub fn settle(
     ids: &mut [[u64; 16]; 64],
     shares: &mut [[f64; 16]; 64],
     minima: &mut [[f64; 16]; 64],
-    acts: &mut [[u64; 3]; 1300],
+    acts: &mut [[u64; 3]],
 ) -> Settled
     requires { ⌜ Plain (now heads) (now ids) (now shares) (now minima) × (anyOf overHead (now heads) ≡ Bool.false) ⌝ }
     ensures { λ r. ⌜ Settles root spare (now (heads .entry)) (now (ids .entry)) (now (shares .entry)) (now (minima .entry)) (now (heads .exit)) (now (ids .exit)) (now (shares .exit)) (now (minima .exit)) (now (acts .exit)) r ⌝ }
@@ -107,7 +107,7 @@ pub fn repair_columns(
     ids: &mut [[u64; 16]; 64],
     shares: &mut [[f64; 16]; 64],
     minima: &mut [[f64; 16]; 64],
-    acts: &mut [[u64; 3]; 1300],
+    acts: &mut [[u64; 3]],
 ) -> Settled
     requires { ⌜ Plain (now heads) (now ids) (now shares) (now minima) ⌝ }
     ensures { λ r. ⌜ Mends root (now (heads .entry)) (now (ids .entry)) (now (shares .entry)) (now (minima .entry)) (now (heads .exit)) (now (ids .exit)) (now (shares .exit)) (now (minima .exit)) (now (acts .exit)) r ⌝ }

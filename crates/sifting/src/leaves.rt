@@ -13,7 +13,7 @@ ghost use Rattle.rules.specs.Tree.{tile};
 ghost use Rattle.sifting.specs.Steps.{Open, Dropped, LeafWalked, GroupWalked};
 
 // A bad, empty or claimed id: noted, and dropped.
-pub fn gone(acts: &mut [[u64; 3]; 1300], c: Counts, id: u64) -> Walk
+pub fn gone(acts: &mut [[u64; 3]], c: Counts, id: u64) -> Walk
     requires { ⌜ c .acts < 1300 ⌝ }
     ensures { λ r. ⌜ Dropped id (now (acts .entry)) c (now (acts .exit)) (r .kept) (r .counts) ⌝ }
 {
@@ -32,7 +32,7 @@ pub fn pane_step(
     heads: &mut [[u64; 8]; 64],
     claimed: &mut [bool; 64],
     seen: &mut [u64; 1024],
-    acts: &mut [[u64; 3]; 1300],
+    acts: &mut [[u64; 3]],
     c: Counts,
     id: u64,
 ) -> Walk
@@ -70,7 +70,7 @@ pub fn group_step(
     ids: &mut [[u64; 16]; 64],
     claimed: &mut [bool; 64],
     seen: &mut [u64; 1024],
-    acts: &mut [[u64; 3]; 1300],
+    acts: &mut [[u64; 3]],
     c: Counts,
     id: u64,
 ) -> Walk

@@ -57,13 +57,7 @@ pub struct Sift {
 }
 
 // The closure of `tabs.panes.retain`, at one pane.
-fn keep_pane(
-    seen: &mut [u64; 1024],
-    acts: &mut [[u64; 3]; 1300],
-    s: Sift,
-    id: u64,
-    pane: u64,
-) -> Sift
+fn keep_pane(seen: &mut [u64; 1024], acts: &mut [[u64; 3]], s: Sift, id: u64, pane: u64) -> Sift
     requires { ⌜ (s .list .len < 16) × (s .counts .seen < 1024) × (s .counts .acts < 1300) ⌝ }
     ensures { λ r. ⌜ Sifts id pane (now (seen .entry)) (now (acts .entry)) s (now (seen .exit)) (now (acts .exit)) r ⌝ }
 {
@@ -92,13 +86,7 @@ fn keep_pane(
 }
 
 // `tabs.panes.retain`
-pub fn retain(
-    seen: &mut [u64; 1024],
-    acts: &mut [[u64; 3]; 1300],
-    c: Counts,
-    id: u64,
-    panes: Ids,
-) -> Sift
+pub fn retain(seen: &mut [u64; 1024], acts: &mut [[u64; 3]], c: Counts, id: u64, panes: Ids) -> Sift
     requires { ⌜ (panes .len ≤ 16) × (c .seen + 16 ≤ 1024) × (c .acts + 16 ≤ 1300) ⌝ }
     ensures { λ r. ⌜ Retains id (Tree.ids panes) (now (seen .entry)) (now (acts .entry)) c (now (seen .exit)) (now (acts .exit)) (r .list) (r .counts) ⌝ }
 {

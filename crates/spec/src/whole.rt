@@ -32,7 +32,8 @@ fn mended(
     requires { ⌜ Plain (now heads) (now ids) (now shares) (now minima) ⌝ }
     ensures { λ r. ⌜ BuiltIn (builtOf (arenaFrom 0 0 (now (heads .entry)) (now (ids .entry)) (now (shares .entry)) (now (minima .entry)))) (r .answer) (r .root) (now (heads .exit)) (now (ids .exit)) (now (shares .exit)) (now (minima .exit)) ⌝ }
 {
-    let mut acts = [[0u64; 3]; 1300];
+    // A list that has not 1,300 places is silent, as the Rust's sink without a list.
+    let mut acts = [[0u64; 3]; 1];
     let s = repair_columns(0, heads, ids, shares, minima, &mut acts);
     let answer = s.answer;
     let root = s.root;

@@ -27,6 +27,10 @@ tidy-requires c κs = search needs
 array-read-repair-columns : tie.Need-array-read-repair-columns
 array-read-repair-columns c = search needs
 
+-- the list of actions is lent with its 1,300 places
+slice-aggregate-repair-columns : tie.Need-slice-aggregate-repair-columns
+slice-aggregate-repair-columns c = search needs
+
 repair-columns-requires : tie.Need-repair-columns-requires
 repair-columns-requires c κs =
     let y = c .before .before .before .before .before .before .before .before .before in
@@ -38,7 +42,7 @@ tell-requires : tie.Need-tell-requires
 tell-requires c κs = search needs
 
 write-requires : tie.Need-write-requires
-write-requires c κs = c .before .before .before .before .repair-columns .ensures .left .count
+write-requires c κs = c .before .before .before .before .before .repair-columns .ensures .left .count
 
 array-read-keep-columns : tie.Need-array-read-keep-columns
 array-read-keep-columns c = search needs
@@ -50,7 +54,7 @@ returns-2 : tie.Need-returns-2
 returns-2 c =
     let w = c .before .before .before .before .before .before .before .before .before .before in
     let t = w .before .before .before in
-    let r = t .before .before in
+    let r = t .before .before .before in
     let y = r .before .before .before .before .before .before .before .before .before .before in
     let z = y .before .before in
     let e = z .before .before .before .before .before in
@@ -69,6 +73,7 @@ tiling-repair-spec =
     sized-requires
     tidy-requires
     array-read-repair-columns
+    slice-aggregate-repair-columns
     repair-columns-requires
     tell-requires
     write-requires

@@ -29,10 +29,13 @@ compact-constraints-requires c κs = search needs
 store-requires : tie.Need-store-requires
 store-requires c κs = search needs
 
+same-length : tie.Need-same-length
+same-length c = search needs
+
 returns : tie.Need-returns
 returns c =
     let m = c .before .before .before .before .before in
-    let n = m .before .before in
+    let n = m .before .before .before in
     let e = n .before .before .before in
     let s = e .before in
     let o = s .before .before .before in
@@ -51,4 +54,5 @@ keep-split-spec =
     note-if-requires
     compact-constraints-requires
     store-requires
+    same-length
     returns)

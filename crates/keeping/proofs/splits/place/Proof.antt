@@ -22,12 +22,16 @@ with-moved-requires c κs = search needs
 enum-told-2 : tie.Need-enum-told-2
 enum-told-2 c = search needs
 
+same-length : tie.Need-same-length
+same-length c = search needs
+
 returns : tie.Need-returns
 returns c =
-    let f = c .before .before .before in
+    let p = c .before in
+    let f = p .before .before .before in
     let a = f .before .before .before .args in
     let q = f .before .kept .given .1 in
-    λ cs seen e ps pm Z room. placed-kept q (c .place-at .ensures cs seen e ps pm Z (room-kept (a .c .acts) (19 * free cs) q room))
+    λ cs seen e ps pm Z room. placed-kept q (p .place-at .ensures cs seen e ps pm Z (room-kept (a .c .acts) (19 * free cs) q room))
 
 returns-2 : tie.Need-returns-2
 returns-2 c =
@@ -53,6 +57,7 @@ place-spec =
     enum-told
     with-moved-requires
     enum-told-2
+    same-length
     returns
     returns-2
     returns-3)

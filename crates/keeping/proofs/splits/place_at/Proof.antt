@@ -74,17 +74,21 @@ mul-t19 c = search needs
 element-set-from-heads : tie.Need-element-set-from-heads
 element-set-from-heads c = search needs
 
+same-length : tie.Need-same-length
+same-length c = search needs
+
 returns-4 : tie.Need-returns-4
 returns-4 c =
-    let b = c .before .before .before .before in
+    let n = c .before .before in
+    let b = n .before .before .before in
     let m = b .before .before .before in
     let o = m .before .before .before .before in
     let a = o .args in
     λ cs seen e ps pm Z room.
     placed-melted (cols (a .heads .now) (a .ids .now) (a .shares .now) (a .minima .now) cs seen (a .acts .now) (a .c)) Z (a .mode) e (a .k) (a .share) (a .minimum) ps pm (a .id)
     (b .before .load .result) (b .before .load .ensures) (b .melt-kids .result) (b .melt-kids .ensures)
-    (sym (m .before .is-meltable .ensures _ _ _) ∙ not-false _ (m .if2 .left)) (c .before .before .before .if3 .left) room _ (c .before .note .result)
-    (c .before .note .ensures (CollapsedSplit (tile (a .id))) refl refl refl)
+    (sym (m .before .is-meltable .ensures _ _ _) ∙ not-false _ (m .if2 .left)) (n .before .before .if3 .left) room _ (n .note .result)
+    (n .note .ensures (CollapsedSplit (tile (a .id))) refl refl refl)
 
 pub place-at-spec : {M : Type 1} → statement M
 place-at-spec =
@@ -103,4 +107,5 @@ place-at-spec =
     note-requires
     mul-t19
     element-set-from-heads
+    same-length
     returns-4)

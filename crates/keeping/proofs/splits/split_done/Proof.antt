@@ -19,9 +19,12 @@ note-requires c κs = search needs
 clear-requires : tie.Need-clear-requires
 clear-requires c κs = search needs
 
+same-length : tie.Need-same-length
+same-length c = search needs
+
 returns : tie.Need-returns
 returns c =
-    let n = c .before .before in
+    let n = c .before .before .before in
     let t = n .before .before in
     let o = t .before .before .before in
     let a = o .args in
@@ -38,9 +41,12 @@ note-requires-2 c κs = search needs
 clear-requires-2 : tie.Need-clear-requires-2
 clear-requires-2 c κs = search needs
 
+same-length-2 : tie.Need-same-length-2
+same-length-2 c = search needs
+
 returns-2 : tie.Need-returns-2
 returns-2 c =
-    let n = c .before .before in
+    let n = c .before .before .before in
     let g = n .before .before in
     let t = g .before in
     let o = t .before .before .before .before .before in
@@ -52,9 +58,12 @@ returns-2 c =
 keep-split-requires : tie.Need-keep-split-requires
 keep-split-requires c κs = search needs
 
+same-length-3 : tie.Need-same-length-3
+same-length-3 c = search needs
+
 returns-3 : tie.Need-returns-3
 returns-3 c =
-    c .keep-split .ensures
+    c .before .keep-split .ensures
 
 pub split-done-spec : {M : Type 1} → statement M
 split-done-spec =
@@ -62,10 +71,13 @@ split-done-spec =
     (tie.spec
     note-requires
     clear-requires
+    same-length
     returns
     get-requires
     note-requires-2
     clear-requires-2
+    same-length-2
     returns-2
     keep-split-requires
+    same-length-3
     returns-3)

@@ -24,13 +24,17 @@ eq-reals-requires-2 c κs = search needs
 
 note-if-requires-2 : tie.Need-note-if-requires-2
 note-if-requires-2 c κs =
-    let f = c .before .before .before .before in
+    let f = c .before .before .before .before .before in
     let o = f .before .before .before .before .before .before in
     omega (arith, f .note-if .ensures (RepairedConstraints (tile (o .args .id))) refl refl refl .most, o .pre .0)
 
+same-length : tie.Need-same-length
+same-length c = search needs
+
 returns : tie.Need-returns
 returns c =
-    let f = c .before .before .before .before .before in
+    let g = c .before in
+    let f = g .before .before .before .before .before .before in
     let z = f .before .before in
     let o = z .before .before .before .before in
     let k = o .args .k in
@@ -38,9 +42,9 @@ returns c =
     let t = tile (o .args .id) in
     bad-noted (o .args .id) k l _ _ _ _ _ _ _ _
     (ap not (z .eq-reals .ensures ∙ (λ i. eqReals (z .before .compact-constraints .ensures .list i) (reals (k .minima)))))
-    (ap not (c .before .before .eq-reals2 .ensures))
+    (ap not (g .before .before .eq-reals2 .ensures))
     (f .note-if .ensures (RepairedConstraints t) refl refl refl)
-    (c .note-if2 .ensures (RepairedShares t) refl refl refl)
+    (g .note-if2 .ensures (RepairedShares t) refl refl refl)
 
 pub split-noted-spec : {M : Type 1} → statement M
 split-noted-spec =
@@ -51,4 +55,5 @@ split-noted-spec =
     note-if-requires
     eq-reals-requires-2
     note-if-requires-2
+    same-length
     returns)

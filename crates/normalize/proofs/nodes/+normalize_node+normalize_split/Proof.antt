@@ -1,11 +1,11 @@
 -- The cycle of `repair::normalize_node` and `normalize_split`. Each answer hands paths to a law of WalkLaws. Assumes nothing.
-use mathlib.Core.Path.{sym, ap, _∙_}
+use mathlib.Core.Path.{_≡_, refl, sym, ap, _∙_}
 use mathlib.Core.Bool.{Bool, false}
 use mathlib.Core.List.{List, []}
 use Prim.Native.Nat.{ℕ, _+_, _-_, _<_}
 use native.Mathlib.Omega.{arith}
 use borrow.Author.Needs.{needs}
-use lib.ListN.{getD}
+use lib.ListN.{length, getD}
 use lib.Ieee.{ofBits}
 use Rattle.rules.specs.Numbers.{zero-f}
 use Rattle.rules.specs.Repair.{entry}
@@ -87,6 +87,18 @@ normalize-node-gone-requires : (t : ℕ) → normalize-node-lts.Need-gone-requir
 ) (normalize-node-at t) normalize-node.Post
 normalize-node-gone-requires t c κs = omega (arith, c .before .before .pre .1 .1)
 
+normalize-node-same-length : (t : ℕ) → normalize-node-lts.Need-same-length (
+  gone-reads.Asked,
+  gone-reads.Learnt,
+  pane-step-reads.Asked,
+  pane-step-reads.Learnt,
+  group-step-reads.Asked,
+  group-step-reads.Learnt,
+  normalize-split-below t,
+  normalize-split.Post,
+) (normalize-node-at t) normalize-node.Post
+normalize-node-same-length t c = c .acts .given
+
 -- src/normalize.rt:101:9
 normalize-node-returns : (t : ℕ) → normalize-node-lts.Need-returns (
   gone-reads.Asked,
@@ -99,11 +111,12 @@ normalize-node-returns : (t : ℕ) → normalize-node-lts.Need-returns (
   normalize-split.Post,
 ) (normalize-node-at t) normalize-node.Post
 normalize-node-returns t c =
-    let b = c .before .before .before in
+    let g = c .before in
+    let b = g .before .before .before in
     let x = b .args in
     dropped (x .heads .now) (x .ids .now) (x .shares .now) (x .minima .now) (x .claimed .now) (x .seen .now) (x .acts .now) (x .c) (x .id)
-    (b .pre .1 .0) (b .pre .1 .1) (c .gone .last .0) (c .gone .result .kept) (c .gone .result .counts) (c .gone .ensures)
-    (λ w W f. gone-out (tile (x .id)) w (c .before .before .if1 .taken) f)
+    (b .pre .1 .0) (b .pre .1 .1) (g .gone .last .0) (g .gone .result .kept) (g .gone .result .counts) (g .gone .ensures)
+    (λ w W f. gone-out (tile (x .id)) w (g .before .before .if1 .taken) f)
 
 -- src/normalize.rt:104:8
 normalize-node-element-copy-out-if2 : (t : ℕ) → normalize-node-lts.Need-element-copy-out-if2 (
@@ -131,6 +144,18 @@ normalize-node-gone-requires-2 : (t : ℕ) → normalize-node-lts.Need-gone-requ
 ) (normalize-node-at t) normalize-node.Post
 normalize-node-gone-requires-2 t c κs = omega (arith, c .before .before .before .before .pre .1 .1)
 
+normalize-node-same-length-2 : (t : ℕ) → normalize-node-lts.Need-same-length-2 (
+  gone-reads.Asked,
+  gone-reads.Learnt,
+  pane-step-reads.Asked,
+  pane-step-reads.Learnt,
+  group-step-reads.Asked,
+  group-step-reads.Learnt,
+  normalize-split-below t,
+  normalize-split.Post,
+) (normalize-node-at t) normalize-node.Post
+normalize-node-same-length-2 t c = c .acts2 .given
+
 -- src/normalize.rt:105:9
 normalize-node-returns-2 : (t : ℕ) → normalize-node-lts.Need-returns-2 (
   gone-reads.Asked,
@@ -143,12 +168,13 @@ normalize-node-returns-2 : (t : ℕ) → normalize-node-lts.Need-returns-2 (
   normalize-split.Post,
 ) (normalize-node-at t) normalize-node.Post
 normalize-node-returns-2 t c =
-    let n = c .before .before in
+    let g = c .before in
+    let n = g .before .before in
     let e = n .before .before in
     let b = e .before in
     let x = b .args in
     dropped (x .heads .now) (x .ids .now) (x .shares .now) (x .minima .now) (x .claimed .now) (x .seen .now) (x .acts .now) (x .c) (x .id)
-    (b .pre .1 .0) (b .pre .1 .1) (c .gone2 .last .0) (c .gone2 .result .kept) (c .gone2 .result .counts) (c .gone2 .ensures)
+    (b .pre .1 .0) (b .pre .1 .1) (g .gone2 .last .0) (g .gone2 .result .kept) (g .gone2 .result .counts) (g .gone2 .ensures)
     (λ w W f. gone-claimed (tile (x .id)) w (e .if1 .left) (ap (λ (fs : List Bool). getD fs (x .id) false) (W .claimed) ∙ n .if2 .taken) f)
 
 -- src/normalize.rt:107:13
@@ -203,6 +229,18 @@ normalize-node-gone-requires-3 : (t : ℕ) → normalize-node-lts.Need-gone-requ
 ) (normalize-node-at t) normalize-node.Post
 normalize-node-gone-requires-3 t c κs = omega (arith, c .before .before .before .before .before .before .pre .1 .1)
 
+normalize-node-same-length-3 : (t : ℕ) → normalize-node-lts.Need-same-length-3 (
+  gone-reads.Asked,
+  gone-reads.Learnt,
+  pane-step-reads.Asked,
+  pane-step-reads.Learnt,
+  group-step-reads.Asked,
+  group-step-reads.Learnt,
+  normalize-split-below t,
+  normalize-split.Post,
+) (normalize-node-at t) normalize-node.Post
+normalize-node-same-length-3 t c = c .acts3 .given
+
 -- src/normalize.rt:110:9
 normalize-node-returns-3 : (t : ℕ) → normalize-node-lts.Need-returns-3 (
   gone-reads.Asked,
@@ -215,7 +253,8 @@ normalize-node-returns-3 : (t : ℕ) → normalize-node-lts.Need-returns-3 (
   normalize-split.Post,
 ) (normalize-node-at t) normalize-node.Post
 normalize-node-returns-3 t c =
-    let k = c .before .before in
+    let g = c .before in
+    let k = g .before .before in
     let n = k .before .before in
     let e = n .before .before in
     let b = e .before in
@@ -223,7 +262,7 @@ normalize-node-returns-3 t c =
     let h = getD (x .heads .now) (x .id) [] in
     let here = cols (x .heads .now) (x .ids .now) (x .shares .now) (x .minima .now) (x .claimed .now) (x .seen .now) (x .acts .now) (x .c) in
     dropped (x .heads .now) (x .ids .now) (x .shares .now) (x .minima .now) (x .claimed .now) (x .seen .now) (x .acts .now) (x .c) (x .id)
-    (b .pre .1 .0) (b .pre .1 .1) (c .gone3 .last .0) (c .gone3 .result .kept) (c .gone3 .result .counts) (c .gone3 .ensures)
+    (b .pre .1 .0) (b .pre .1 .1) (g .gone3 .last .0) (g .gone3 .result .kept) (g .gone3 .result .counts) (g .gone3 .ensures)
     (λ w W f. gone-empty (tile (x .id)) w (e .if1 .left) (ap (λ (fs : List Bool). getD fs (x .id) false) (W .claimed) ∙ n .if2 .left)
     (slot-is here (b .pre .1 .0) w W (x .id) ∙ ap (λ (i : ℕ). nodeBy i h (getD (x .ids .now) (x .id) []) (getD (x .shares .now) (x .id) []) (getD (x .minima .now) (x .id) [])) (k .if3 .taken)) f)
 
@@ -246,6 +285,18 @@ normalize-node-pane-step-requires t c κs =
     let S = b .pre .1 .0 in
     (record { inside = e .if1 .left; heads = S .heads; flags = S .flags; unclaimed = n .if2 .left; panes = S .panes; listing = b .pre .1 .1 }, k .if4 .taken)
 
+normalize-node-same-length-4 : (t : ℕ) → normalize-node-lts.Need-same-length-4 (
+  gone-reads.Asked,
+  gone-reads.Learnt,
+  pane-step-reads.Asked,
+  pane-step-reads.Learnt,
+  group-step-reads.Asked,
+  group-step-reads.Learnt,
+  normalize-split-below t,
+  normalize-split.Post,
+) (normalize-node-at t) normalize-node.Post
+normalize-node-same-length-4 t c = c .acts4 .given
+
 -- src/normalize.rt:113:9
 normalize-node-returns-4 : (t : ℕ) → normalize-node-lts.Need-returns-4 (
   gone-reads.Asked,
@@ -258,8 +309,8 @@ normalize-node-returns-4 : (t : ℕ) → normalize-node-lts.Need-returns-4 (
   normalize-split.Post,
 ) (normalize-node-at t) normalize-node.Post
 normalize-node-returns-4 t c =
-    let b = c .before .before .before .before .before .before .before .before .before .before .before in
-    c .pane-step .ensures (b .args .ids .now) (b .args .shares .now) (b .args .minima .now) (b .pre .1 .0)
+    let b = c .before .before .before .before .before .before .before .before .before .before .before .before in
+    c .before .pane-step .ensures (b .args .ids .now) (b .args .shares .now) (b .args .minima .now) (b .pre .1 .0)
 
 -- src/normalize.rt:116:9
 normalize-node-group-step-requires : (t : ℕ) → normalize-node-lts.Need-group-step-requires (
@@ -280,6 +331,18 @@ normalize-node-group-step-requires t c κs =
     let S = b .pre .1 .0 in
     (record { inside = e .if1 .left; heads = S .heads; flags = S .flags; unclaimed = n .if2 .left; panes = S .panes; listing = b .pre .1 .1 }, S .ids, k .if5 .taken, S .slim (b .args .id) .0)
 
+normalize-node-same-length-5 : (t : ℕ) → normalize-node-lts.Need-same-length-5 (
+  gone-reads.Asked,
+  gone-reads.Learnt,
+  pane-step-reads.Asked,
+  pane-step-reads.Learnt,
+  group-step-reads.Asked,
+  group-step-reads.Learnt,
+  normalize-split-below t,
+  normalize-split.Post,
+) (normalize-node-at t) normalize-node.Post
+normalize-node-same-length-5 t c = c .acts5 .given
+
 -- src/normalize.rt:116:9
 normalize-node-returns-5 : (t : ℕ) → normalize-node-lts.Need-returns-5 (
   gone-reads.Asked,
@@ -292,8 +355,8 @@ normalize-node-returns-5 : (t : ℕ) → normalize-node-lts.Need-returns-5 (
   normalize-split.Post,
 ) (normalize-node-at t) normalize-node.Post
 normalize-node-returns-5 t c =
-    let b = c .before .before .before .before .before .before .before .before .before .before .before .before .before in
-    c .group-step .ensures (b .args .shares .now) (b .args .minima .now) (b .pre .1 .0)
+    let b = c .before .before .before .before .before .before .before .before .before .before .before .before .before .before in
+    c .before .group-step .ensures (b .args .shares .now) (b .args .minima .now) (b .pre .1 .0)
 
 -- src/normalize.rt:118:5
 normalize-node-normalize-split-requires :
@@ -316,6 +379,18 @@ normalize-node-normalize-split-requires t c κs =
     let b = e .before in
     (omega (arith, b .pre .0), (b .pre .1 .0, b .pre .1 .1, e .if1 .left, n .if2 .left, k0 .if3 .left, k1 .if4 .left, k .if5 .left))
 
+normalize-node-same-length-6 : (t : ℕ) → normalize-node-lts.Need-same-length-6 (
+  gone-reads.Asked,
+  gone-reads.Learnt,
+  pane-step-reads.Asked,
+  pane-step-reads.Learnt,
+  group-step-reads.Asked,
+  group-step-reads.Learnt,
+  normalize-split-below t,
+  normalize-split.Post,
+) (normalize-node-at t) normalize-node.Post
+normalize-node-same-length-6 t c = c .acts6 .given
+
 -- src/normalize.rt:86:1
 normalize-node-returns-6 : (t : ℕ) → normalize-node-lts.Need-returns-6 (
   gone-reads.Asked,
@@ -327,12 +402,12 @@ normalize-node-returns-6 : (t : ℕ) → normalize-node-lts.Need-returns-6 (
   normalize-split-below t,
   normalize-split.Post,
 ) (normalize-node-at t) normalize-node.Post
-normalize-node-returns-6 t c = c .normalize-split .ensures
+normalize-node-returns-6 t c = c .before .normalize-split .ensures
 
 abbrev normalize-split-Inv-loop : normalize-split-lts.InvT-loop
 normalize-split-Inv-loop heads₀ ids₀ shares₀ minima₀ claimed₀ seen₀ acts₀ id o mode children olds least n counts₀ kids₀ j₀ heads ids shares minima claimed seen acts counts kids j =
-    (C₀ : Cols) → Ctx (o .rows) C₀ (cols heads₀ ids₀ shares₀ minima₀ claimed₀ seen₀ acts₀ counts₀) id mode (o .given)
-    → Going (o .rows) C₀ (cols heads₀ ids₀ shares₀ minima₀ claimed₀ seen₀ acts₀ counts₀) id mode (o .given) (cols heads ids shares minima claimed seen acts counts) kids j
+    ((C₀ : Cols) → Ctx (o .rows) C₀ (cols heads₀ ids₀ shares₀ minima₀ claimed₀ seen₀ acts₀ counts₀) id mode (o .given)
+    → Going (o .rows) C₀ (cols heads₀ ids₀ shares₀ minima₀ claimed₀ seen₀ acts₀ counts₀) id mode (o .given) (cols heads ids shares minima claimed seen acts counts) kids j) × (length acts ≡ length acts₀)
 
 abbrev normalize-split-μ-loop : normalize-split-lts.MeasureT-loop
 normalize-split-μ-loop heads₀ ids₀ shares₀ minima₀ claimed₀ seen₀ acts₀ id o mode children olds least n counts₀ kids₀ j₀ heads ids shares minima claimed seen acts counts kids j =
@@ -385,7 +460,7 @@ normalize-split-measured-requires : (t : ℕ) → normalize-split-lts.Need-measu
   split-done-reads.Learnt,
 ) (normalize-split-at t) normalize-split.Post normalize-split-Inv-loop normalize-split-μ-loop
 normalize-split-measured-requires t c κs =
-    let op = c .before in
+    let op = c .before .before in
     let b = op .before .before .before .before .before .before .before in
     op .open-split .ensures (b .args .seen .now) (b .pre .1 .0) .even
 
@@ -433,7 +508,7 @@ normalize-split-loop-holds : (t : ℕ) → normalize-split-lts.Need-loop-holds (
   split-done-reads.Asked,
   split-done-reads.Learnt,
 ) (normalize-split-at t) normalize-split.Post normalize-split-Inv-loop normalize-split-μ-loop
-normalize-split-loop-holds t c = λ C₀ X. start X (c .none .result) (c .none .ensures .2) (c .none .ensures .0) (c .none .ensures .1)
+normalize-split-loop-holds t c = (λ C₀ X. start X (c .none .result) (c .none .ensures .2) (c .none .ensures .0) (c .none .ensures .1), refl)
 
 -- src/normalize.rt:148:13
 normalize-split-get-requires : (t : ℕ) → normalize-split-lts.Need-get-requires (
@@ -483,13 +558,13 @@ normalize-split-normalize-node-requires :
 normalize-split-normalize-node-requires t c κs =
     let a = c .before .before .before .before .before .before .before .before .before in
     let me = a .before .before .before .before .before .before in
-    let op = me .before .before in
+    let op = me .before .before .before in
     let b = op .before .before .before .before .before .before .before in
     let x = b .args in
     let p = b .pre .1 in
     let C₀ = cols (x .heads .now) (x .ids .now) (x .shares .now) (x .minima .now) (x .claimed .now) (x .seen .now) (x .acts .now) (x .c) in
     let X = context (p .0) (p .1) (p .2) (p .3) (op .open-split .ensures (x .seen .now) (p .0)) (me .measured .ensures) in
-    let G = a .loop .inv C₀ X in
+    let G = a .loop .inv .0 C₀ X in
     let i = c .before .before .before .before .before .before .before .before in
     (omega (arith, b .pre .0, falls-by X G), (G .sized, omega (arith, room-for X G (i .loop-test .taken))))
 
@@ -516,6 +591,31 @@ normalize-split-is-wide-requires : (t : ℕ) → normalize-split-lts.Need-is-wid
 ) (normalize-split-at t) normalize-split.Post normalize-split-Inv-loop normalize-split-μ-loop
 normalize-split-is-wide-requires t c κs = search needs
 
+normalize-split-same-length : (t : ℕ) → normalize-split-lts.Need-same-length (
+  open-split-reads.Asked,
+  open-split-reads.Learnt,
+  measured-reads.Asked,
+  measured-reads.Learnt,
+  none-reads.Asked,
+  none-reads.Learnt,
+  ids-get-reads.Asked,
+  ids-get-reads.Learnt,
+  normalize-node-below t,
+  normalize-node.Post,
+  is-wide-reads.Asked,
+  is-wide-reads.Learnt,
+  reals-get-reads.Asked,
+  reals-get-reads.Learnt,
+  place-reads.Asked,
+  place-reads.Learnt,
+  split-done-reads.Asked,
+  split-done-reads.Learnt,
+) (normalize-split-at t) normalize-split.Post normalize-split-Inv-loop normalize-split-μ-loop
+normalize-split-same-length t c =
+    let w = c .before .before .before in
+    let a = w .before .before .before .before .before .before .before .before .before .before .before in
+    w .acts2 .given ∙ a .loop .inv .1 ∙ a .before .before .before .before .before .before .before .before .acts .given
+
 -- src/normalize.rt:153:13
 normalize-split-returns : (t : ℕ) → normalize-split-lts.Need-returns (
   open-split-reads.Asked,
@@ -538,16 +638,16 @@ normalize-split-returns : (t : ℕ) → normalize-split-lts.Need-returns (
   split-done-reads.Learnt,
 ) (normalize-split-at t) normalize-split.Post normalize-split-Inv-loop normalize-split-μ-loop
 normalize-split-returns t c =
-    let a = c .before .before .before .before .before .before .before .before .before .before .before .before .before in
+    let a = c .before .before .before .before .before .before .before .before .before .before .before .before .before .before in
     let me = a .before .before .before .before .before .before in
-    let op = me .before .before in
+    let op = me .before .before .before in
     let b = op .before .before .before .before .before .before .before in
     let x = b .args in
     let p = b .pre .1 in
     let C₀ = cols (x .heads .now) (x .ids .now) (x .shares .now) (x .minima .now) (x .claimed .now) (x .seen .now) (x .acts .now) (x .c) in
     let X = context (p .0) (p .1) (p .2) (p .3) (op .open-split .ensures (x .seen .now) (p .0)) (me .measured .ensures) in
-    let G = a .loop .inv C₀ X in
-    let w = c .before .before .before in
+    let G = a .loop .inv .0 C₀ X in
+    let w = c .before .before .before .before in
     let g = w .before .before .before .before .before .before .before .before in
     let r = w .normalize-node in
     let E₁ = cols (r .last .0) (r .last .1 .0) (r .last .1 .1 .0) (r .last .1 .1 .1 .0) (r .last .1 .1 .1 .1 .0) (r .last .1 .1 .1 .1 .1 .0) (r .last .1 .1 .1 .1 .1 .1 .0) (r .result .counts) in
@@ -621,19 +721,19 @@ normalize-split-place-requires : (t : ℕ) → normalize-split-lts.Need-place-re
   split-done-reads.Learnt,
 ) (normalize-split-at t) normalize-split.Post normalize-split-Inv-loop normalize-split-μ-loop
 normalize-split-place-requires t c κs =
-    let a = c .before .before .before .before .before .before .before .before .before .before .before .before .before .before .before .before .before .before .before .before in
+    let a = c .before .before .before .before .before .before .before .before .before .before .before .before .before .before .before .before .before .before .before .before .before in
     let me = a .before .before .before .before .before .before in
-    let op = me .before .before in
+    let op = me .before .before .before in
     let b = op .before .before .before .before .before .before .before in
     let x = b .args in
     let p = b .pre .1 in
     let C₀ = cols (x .heads .now) (x .ids .now) (x .shares .now) (x .minima .now) (x .claimed .now) (x .seen .now) (x .acts .now) (x .c) in
     let X = context (p .0) (p .1) (p .2) (p .3) (op .open-split .ensures (x .seen .now) (p .0)) (me .measured .ensures) in
-    let G = a .loop .inv C₀ X in
+    let G = a .loop .inv .0 C₀ X in
     let g3 = c .before .before .before .before .before in
     let g2 = g3 .before in
     let e1 = g2 .before in
-    let w = e1 .before .before .before in
+    let w = e1 .before .before .before .before in
     let g = w .before .before .before .before .before .before .before .before in
     let r = w .normalize-node in
     let lt = g .before .loop-test .taken in
@@ -641,6 +741,32 @@ normalize-split-place-requires t c κs =
     let E₁ = cols (r .last .0) (r .last .1 .0) (r .last .1 .1 .0) (r .last .1 .1 .1 .0) (r .last .1 .1 .1 .1 .0) (r .last .1 .1 .1 .1 .1 .0) (r .last .1 .1 .1 .1 .1 .1 .0) (r .result .counts) in
     let Z = r .ensures .sized in
     (Z .heads, Z .ids, Z .shares, Z .minima, Z .slim, G .even, omega (arith, Z .listing), not-wide (r .result .kept) narrow)
+
+normalize-split-same-length-2 : (t : ℕ) → normalize-split-lts.Need-same-length-2 (
+  open-split-reads.Asked,
+  open-split-reads.Learnt,
+  measured-reads.Asked,
+  measured-reads.Learnt,
+  none-reads.Asked,
+  none-reads.Learnt,
+  ids-get-reads.Asked,
+  ids-get-reads.Learnt,
+  normalize-node-below t,
+  normalize-node.Post,
+  is-wide-reads.Asked,
+  is-wide-reads.Learnt,
+  reals-get-reads.Asked,
+  reals-get-reads.Learnt,
+  place-reads.Asked,
+  place-reads.Learnt,
+  split-done-reads.Asked,
+  split-done-reads.Learnt,
+) (normalize-split-at t) normalize-split.Post normalize-split-Inv-loop normalize-split-μ-loop
+normalize-split-same-length-2 t c =
+    let p = c .before .before in
+    let w = p .before .before .before .before .before .before .before .before .before .before .before .before in
+    let a = w .before .before .before .before .before .before .before .before .before .before .before in
+    p .acts3 .given ∙ w .acts2 .given ∙ a .loop .inv .1 ∙ a .before .before .before .before .before .before .before .before .acts .given
 
 -- src/normalize.rt:163:13
 normalize-split-returns-2 : (t : ℕ) → normalize-split-lts.Need-returns-2 (
@@ -665,25 +791,25 @@ normalize-split-returns-2 : (t : ℕ) → normalize-split-lts.Need-returns-2 (
 ) (normalize-split-at t) normalize-split.Post normalize-split-Inv-loop normalize-split-μ-loop
 unfolding ofBits
 normalize-split-returns-2 t c =
-    let a = c .before .before .before .before .before .before .before .before .before .before .before .before .before .before .before .before .before .before .before .before .before .before .before in
+    let a = c .before .before .before .before .before .before .before .before .before .before .before .before .before .before .before .before .before .before .before .before .before .before .before .before .before in
     let me = a .before .before .before .before .before .before in
-    let op = me .before .before in
+    let op = me .before .before .before in
     let b = op .before .before .before .before .before .before .before in
     let x = b .args in
     let p = b .pre .1 in
     let C₀ = cols (x .heads .now) (x .ids .now) (x .shares .now) (x .minima .now) (x .claimed .now) (x .seen .now) (x .acts .now) (x .c) in
     let X = context (p .0) (p .1) (p .2) (p .3) (op .open-split .ensures (x .seen .now) (p .0)) (me .measured .ensures) in
-    let G = a .loop .inv C₀ X in
-    let g3 = c .before .before .before .before .before .before .before .before in
+    let G = a .loop .inv .0 C₀ X in
+    let g3 = c .before .before .before .before .before .before .before .before .before in
     let g2 = g3 .before in
     let e1 = g2 .before in
-    let w = e1 .before .before .before in
+    let w = e1 .before .before .before .before in
     let g = w .before .before .before .before .before .before .before .before in
     let r = w .normalize-node in
     let lt = g .before .loop-test .taken in
     let narrow = sym (e1 .before .is-wide .ensures) ∙ e1 .if1 .left in
     let E₁ = cols (r .last .0) (r .last .1 .0) (r .last .1 .1 .0) (r .last .1 .1 .1 .0) (r .last .1 .1 .1 .1 .0) (r .last .1 .1 .1 .1 .1 .0) (r .last .1 .1 .1 .1 .1 .1 .0) (r .result .counts) in
-    let q = c .before .before .place in
+    let q = c .before .before .before .place in
     let o = op .open-split .result in
     too-many X G lt (g .get .result) (g .get .ensures) E₁ (r .result .kept) (r .ensures) narrow (cols (q .last .0) (r .last .1 .0) (r .last .1 .1 .0) (r .last .1 .1 .1 .0) (r .last .1 .1 .1 .1 .0) (r .last .1 .1 .1 .1 .1 .0) (q .last .1 .1 .1 .1 .0) (q .result .counts)) (q .result .kids) (q .result .wide)
     (q .ensures (r .last .1 .1 .1 .1 .0) (r .last .1 .1 .1 .1 .1 .0)
@@ -713,16 +839,16 @@ normalize-split-add-j : (t : ℕ) → normalize-split-lts.Need-add-j (
   split-done-reads.Learnt,
 ) (normalize-split-at t) normalize-split.Post normalize-split-Inv-loop normalize-split-μ-loop
 normalize-split-add-j t c =
-    let a = c .before .before .before .before .before .before .before .before .before .before .before .before .before .before .before .before .before .before .before .before .before .before .before .before in
+    let a = c .before .before .before .before .before .before .before .before .before .before .before .before .before .before .before .before .before .before .before .before .before .before .before .before .before .before in
     let me = a .before .before .before .before .before .before in
-    let op = me .before .before in
+    let op = me .before .before .before in
     let b = op .before .before .before .before .before .before .before in
     let x = b .args in
     let p = b .pre .1 in
     let C₀ = cols (x .heads .now) (x .ids .now) (x .shares .now) (x .minima .now) (x .claimed .now) (x .seen .now) (x .acts .now) (x .c) in
     let X = context (p .0) (p .1) (p .2) (p .3) (op .open-split .ensures (x .seen .now) (p .0)) (me .measured .ensures) in
-    let G = a .loop .inv C₀ X in
-    omega (arith, X .opens .even .few, c .before .before .before .before .before .before .before .before .before .before .before .before .before .before .before .before .before .before .before .before .before .before .before .loop-test .taken)
+    let G = a .loop .inv .0 C₀ X in
+    omega (arith, X .opens .even .few, c .before .before .before .before .before .before .before .before .before .before .before .before .before .before .before .before .before .before .before .before .before .before .before .before .before .loop-test .taken)
 
 -- src/normalize.rt:147:5
 normalize-split-loop-less : (t : ℕ) → normalize-split-lts.Need-loop-less (
@@ -745,7 +871,7 @@ normalize-split-loop-less : (t : ℕ) → normalize-split-lts.Need-loop-less (
   split-done-reads.Asked,
   split-done-reads.Learnt,
 ) (normalize-split-at t) normalize-split.Post normalize-split-Inv-loop normalize-split-μ-loop
-normalize-split-loop-less t c = omega (arith, c .before .before .before .before .before .before .before .before .before .before .before .before .before .before .before .before .before .before .before .before .before .before .before .loop-test .taken)
+normalize-split-loop-less t c = omega (arith, c .before .before .before .before .before .before .before .before .before .before .before .before .before .before .before .before .before .before .before .before .before .before .before .before .before .loop-test .taken)
 
 -- src/normalize.rt:147:5
 normalize-split-loop-again : (t : ℕ) → normalize-split-lts.Need-loop-again (
@@ -770,25 +896,30 @@ normalize-split-loop-again : (t : ℕ) → normalize-split-lts.Need-loop-again (
 ) (normalize-split-at t) normalize-split.Post normalize-split-Inv-loop normalize-split-μ-loop
 unfolding ofBits
 normalize-split-loop-again t c =
-    λ C₀ X.
-    let a = c .before .before .before .before .before .before .before .before .before .before .before .before .before .before .before .before .before .before .before .before .before .before .before .before in
-    let G = a .loop .inv C₀ X in
-    let g3 = c .before .before .before .before .before .before .before .before .before in
-    let g2 = g3 .before in
-    let e1 = g2 .before in
-    let w = e1 .before .before .before in
-    let g = w .before .before .before .before .before .before .before .before in
-    let r = w .normalize-node in
-    let lt = g .before .loop-test .taken in
-    let narrow = sym (e1 .before .is-wide .ensures) ∙ e1 .if1 .left in
-    let E₁ = cols (r .last .0) (r .last .1 .0) (r .last .1 .1 .0) (r .last .1 .1 .1 .0) (r .last .1 .1 .1 .1 .0) (r .last .1 .1 .1 .1 .1 .0) (r .last .1 .1 .1 .1 .1 .1 .0) (r .result .counts) in
-    let q = c .before .before .before .place in
-    let o = a .before .before .before .before .before .before .before .before .open-split .result in
-    one-more X G lt (g .get .result) (g .get .ensures) E₁ (r .result .kept) (r .ensures) narrow (cols (q .last .0) (r .last .1 .0) (r .last .1 .1 .0) (r .last .1 .1 .1 .0) (r .last .1 .1 .1 .1 .0) (r .last .1 .1 .1 .1 .1 .0) (q .last .1 .1 .1 .1 .0) (q .result .counts)) (q .result .kids) (q .result .wide)
-    (q .ensures (r .last .1 .1 .1 .1 .0) (r .last .1 .1 .1 .1 .1 .0)
-    (entry (tile (getD (ids (o .rows .children)) (a .loop .j) 0)) (getD (reals (o .rows .shares)) (a .loop .j) zero-f) (getD (reals (o .rows .minima)) (a .loop .j) zero-f))
-    (sym (g2 .get2 .ensures)) (sym (g3 .get3 .ensures)) (r .ensures .sized)
-    (room-placed X G lt (g .get .result) (g .get .ensures) E₁ (r .result .kept) (r .ensures))) (c .before .if2 .left)
+    let k = c .before .before .before in
+    let w₀ = k .before .before .before .before .before .before .before .before .before .before .before .before in
+    let a₀ = c .before .before .before .before .before .before .before .before .before .before .before .before .before .before .before .before .before .before .before .before .before .before .before .before .before .before in (
+      λ C₀ X.
+          let a = c .before .before .before .before .before .before .before .before .before .before .before .before .before .before .before .before .before .before .before .before .before .before .before .before .before .before in
+          let G = a .loop .inv .0 C₀ X in
+          let g3 = c .before .before .before .before .before .before .before .before .before .before in
+          let g2 = g3 .before in
+          let e1 = g2 .before in
+          let w = e1 .before .before .before .before in
+          let g = w .before .before .before .before .before .before .before .before in
+          let r = w .normalize-node in
+          let lt = g .before .loop-test .taken in
+          let narrow = sym (e1 .before .is-wide .ensures) ∙ e1 .if1 .left in
+          let E₁ = cols (r .last .0) (r .last .1 .0) (r .last .1 .1 .0) (r .last .1 .1 .1 .0) (r .last .1 .1 .1 .1 .0) (r .last .1 .1 .1 .1 .1 .0) (r .last .1 .1 .1 .1 .1 .1 .0) (r .result .counts) in
+          let q = c .before .before .before .before .place in
+          let o = a .before .before .before .before .before .before .before .before .before .open-split .result in
+          one-more X G lt (g .get .result) (g .get .ensures) E₁ (r .result .kept) (r .ensures) narrow (cols (q .last .0) (r .last .1 .0) (r .last .1 .1 .0) (r .last .1 .1 .1 .0) (r .last .1 .1 .1 .1 .0) (r .last .1 .1 .1 .1 .1 .0) (q .last .1 .1 .1 .1 .0) (q .result .counts)) (q .result .kids) (q .result .wide)
+          (q .ensures (r .last .1 .1 .1 .1 .0) (r .last .1 .1 .1 .1 .1 .0)
+          (entry (tile (getD (ids (o .rows .children)) (a .loop .j) 0)) (getD (reals (o .rows .shares)) (a .loop .j) zero-f) (getD (reals (o .rows .minima)) (a .loop .j) zero-f))
+          (sym (g2 .get2 .ensures)) (sym (g3 .get3 .ensures)) (r .ensures .sized)
+          (room-placed X G lt (g .get .result) (g .get .ensures) E₁ (r .result .kept) (r .ensures))) (c .before .if2 .left),
+      k .acts3 .given ∙ w₀ .acts2 .given ∙ a₀ .loop .inv .1,
+    )
 
 -- src/normalize.rt:174:5
 normalize-split-split-done-requires : (t : ℕ) → normalize-split-lts.Need-split-done-requires (
@@ -814,15 +945,39 @@ normalize-split-split-done-requires : (t : ℕ) → normalize-split-lts.Need-spl
 normalize-split-split-done-requires t c κs =
     let a = c .before .before .before .before .before .before .before in
     let me = a .before .before .before .before .before .before in
-    let op = me .before .before in
+    let op = me .before .before .before in
     let b = op .before .before .before .before .before .before .before in
     let x = b .args in
     let p = b .pre .1 in
     let C₀ = cols (x .heads .now) (x .ids .now) (x .shares .now) (x .minima .now) (x .claimed .now) (x .seen .now) (x .acts .now) (x .c) in
     let X = context (p .0) (p .1) (p .2) (p .3) (op .open-split .ensures (x .seen .now) (p .0)) (me .measured .ensures) in
-    let G = a .loop .inv C₀ X in
+    let G = a .loop .inv .0 C₀ X in
     let Z = G .sized in
     (Z .heads, Z .ids, Z .shares, Z .minima, p .2, G .even, X .opens .few, omega (arith, Z .listing))
+
+normalize-split-same-length-3 : (t : ℕ) → normalize-split-lts.Need-same-length-3 (
+  open-split-reads.Asked,
+  open-split-reads.Learnt,
+  measured-reads.Asked,
+  measured-reads.Learnt,
+  none-reads.Asked,
+  none-reads.Learnt,
+  ids-get-reads.Asked,
+  ids-get-reads.Learnt,
+  normalize-node-below t,
+  normalize-node.Post,
+  is-wide-reads.Asked,
+  is-wide-reads.Learnt,
+  reals-get-reads.Asked,
+  reals-get-reads.Learnt,
+  place-reads.Asked,
+  place-reads.Learnt,
+  split-done-reads.Asked,
+  split-done-reads.Learnt,
+) (normalize-split-at t) normalize-split.Post normalize-split-Inv-loop normalize-split-μ-loop
+normalize-split-same-length-3 t c =
+    let a = c .before .before .before .before .before .before .before .before .before in
+    c .acts4 .given ∙ a .loop .inv .1 ∙ a .before .before .before .before .before .before .before .before .acts .given
 
 -- src/normalize.rt:122:1
 normalize-split-returns-3 : (t : ℕ) → normalize-split-lts.Need-returns-3 (
@@ -846,18 +1001,18 @@ normalize-split-returns-3 : (t : ℕ) → normalize-split-lts.Need-returns-3 (
   split-done-reads.Learnt,
 ) (normalize-split-at t) normalize-split.Post normalize-split-Inv-loop normalize-split-μ-loop
 normalize-split-returns-3 t c =
-    let a = c .before .before .before .before .before .before .before .before in
+    let a = c .before .before .before .before .before .before .before .before .before in
     let me = a .before .before .before .before .before .before in
-    let op = me .before .before in
+    let op = me .before .before .before in
     let b = op .before .before .before .before .before .before .before in
     let x = b .args in
     let p = b .pre .1 in
     let C₀ = cols (x .heads .now) (x .ids .now) (x .shares .now) (x .minima .now) (x .claimed .now) (x .seen .now) (x .acts .now) (x .c) in
     let X = context (p .0) (p .1) (p .2) (p .3) (op .open-split .ensures (x .seen .now) (p .0)) (me .measured .ensures) in
-    let G = a .loop .inv C₀ X in
-    let r = c .split-done in
+    let G = a .loop .inv .0 C₀ X in
+    let r = c .before .split-done in
     let l = a .loop in
-    all-done X G (c .before .before .before .before .before .before .before .loop-test .left)
+    all-done X G (c .before .before .before .before .before .before .before .before .loop-test .left)
     (cols (r .last .0) (r .last .1 .0) (r .last .1 .1 .0) (r .last .1 .1 .1 .0) (l .claimed) (l .seen) (r .last .1 .1 .1 .1 .0) (r .result .counts)) (r .result .kept)
     (r .ensures (l .claimed) (l .seen) (G .sized) (room-end X G))
 
@@ -876,20 +1031,26 @@ pub +normalize-node+normalize-split-spec : {M : Type 1} → statement M
     (normalize-node-at t)
     normalize-node.Post
     (normalize-node-gone-requires t)
+    (normalize-node-same-length t)
     (normalize-node-returns t)
     (normalize-node-element-copy-out-if2 t)
     (normalize-node-gone-requires-2 t)
+    (normalize-node-same-length-2 t)
     (normalize-node-returns-2 t)
     (normalize-node-mul-h t)
     (normalize-node-element-copy-out-h t)
     (normalize-node-array-read-kind t)
     (normalize-node-gone-requires-3 t)
+    (normalize-node-same-length-3 t)
     (normalize-node-returns-3 t)
     (normalize-node-pane-step-requires t)
+    (normalize-node-same-length-4 t)
     (normalize-node-returns-4 t)
     (normalize-node-group-step-requires t)
+    (normalize-node-same-length-5 t)
     (normalize-node-returns-5 t)
     (normalize-node-normalize-split-requires t)
+    (normalize-node-same-length-6 t)
     (normalize-node-returns-6 t))
     λ t. normalize-split-lts.spec (
       open-split-reads.Asked,
@@ -922,13 +1083,16 @@ pub +normalize-node+normalize-split-spec : {M : Type 1} → statement M
     (normalize-split-get-requires t)
     (normalize-split-normalize-node-requires t)
     (normalize-split-is-wide-requires t)
+    (normalize-split-same-length t)
     (normalize-split-returns t)
     (normalize-split-get-requires-2 t)
     (normalize-split-get-requires-3 t)
     (normalize-split-place-requires t)
+    (normalize-split-same-length-2 t)
     (normalize-split-returns-2 t)
     (normalize-split-add-j t)
     (normalize-split-loop-less t)
     (normalize-split-loop-again t)
     (normalize-split-split-done-requires t)
+    (normalize-split-same-length-3 t)
     (normalize-split-returns-3 t)

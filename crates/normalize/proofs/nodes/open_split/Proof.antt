@@ -25,9 +25,12 @@ mended-requires c κs = search needs
 split-noted-requires : tie.Need-split-noted-requires
 split-noted-requires c κs = search needs
 
+same-length : tie.Need-same-length
+same-length c = search needs
+
 returns : tie.Need-returns
 returns c seen S =
-    let n = c .before in
+    let n = c .before .before in
     let m = n .before .before in
     let l = m .before in
     let b = l .before .before in
@@ -47,4 +50,5 @@ open-split-spec =
     load-requires
     mended-requires
     split-noted-requires
+    same-length
     returns)

@@ -15,17 +15,14 @@ Inv-loop acts n what tile pane i₀ i = (i ≤ n) × Searched (isCode what tile 
 abbrev μ-loop : tie.MeasureT-loop
 μ-loop acts n what tile pane i₀ i = n - i
 
-sized-requires : tie.Need-sized-requires Inv-loop μ-loop
-sized-requires c κs = search needs
-
 loop-holds : tie.Need-loop-holds Inv-loop μ-loop
 loop-holds c = (omega arith, refl)
 
 mul-a : tie.Need-mul-a Inv-loop μ-loop
 mul-a c = omega arith
 
-element-copy-out-a : tie.Need-element-copy-out-a Inv-loop μ-loop
-element-copy-out-a c = search needs
+shared-slice-copy-out-a : tie.Need-shared-slice-copy-out-a Inv-loop μ-loop
+shared-slice-copy-out-a c = omega arith
 
 same-requires : tie.Need-same-requires Inv-loop μ-loop
 same-requires c κs = search needs
@@ -33,9 +30,9 @@ same-requires c κs = search needs
 returns : tie.Need-returns Inv-loop μ-loop
 returns c =
     let l = c .before .before .before .before in
-    let a = l .before .before .args in
+    let a = l .before .args in
     searched-found (isCode (a .what) (a .tile) (a .pane)) (a .acts .now) (a .n) (l .loop .i) [] (c .before .before .before .loop-test .taken)
-    (omega (arith, l .before .before .pre, l .before .sized .ensures)) (sym (c .before .same .ensures) ∙ c .if1 .taken) (l .loop .inv .1)
+    (l .before .pre) (sym (c .before .same .ensures) ∙ c .if1 .taken) (l .loop .inv .1)
 
 add-i : tie.Need-add-i Inv-loop μ-loop
 add-i c = omega arith
@@ -46,18 +43,18 @@ loop-less c = omega arith
 loop-again : tie.Need-loop-again Inv-loop μ-loop
 loop-again c =
     let l = c .before .before .before .before in
-    let a = l .before .before .args in (
+    let a = l .before .args in (
       omega (arith, c .before .before .before .loop-test .taken),
       searched-more (isCode (a .what) (a .tile) (a .pane)) (a .acts .now) (a .n) (l .loop .i) [] (c .before .before .before .loop-test .taken)
-          (omega (arith, l .before .before .pre, l .before .sized .ensures)) (sym (c .before .same .ensures) ∙ c .if1 .left) (l .loop .inv .1),
+          (l .before .pre) (sym (c .before .same .ensures) ∙ c .if1 .left) (l .loop .inv .1),
     )
 
 returns-2 : tie.Need-returns-2 Inv-loop μ-loop
 returns-2 c =
     let l = c .before in
-    let a = l .before .before .args in
+    let a = l .before .args in
     searched-all (isCode (a .what) (a .tile) (a .pane)) (a .acts .now) (a .n) (l .loop .i) (c .loop-test .left)
-    (omega (arith, l .before .before .pre, l .before .sized .ensures)) (l .loop .inv .1)
+    (l .before .pre) (l .loop .inv .1)
 
 pub is-listed-spec : {M : Type 1} → statement M
 is-listed-spec =
@@ -65,10 +62,9 @@ is-listed-spec =
     (tie.spec
     Inv-loop
     μ-loop
-    sized-requires
     loop-holds
     mul-a
-    element-copy-out-a
+    shared-slice-copy-out-a
     same-requires
     returns
     add-i

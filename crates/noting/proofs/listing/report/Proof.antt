@@ -61,7 +61,7 @@ returns : tie.Need-returns Inv-loop μ-loop
 returns c =
     let h = c .before in
     let a = h .before .before .before .args in
-    (reports (a .acts .now) (h .loop .at) (a .n) (h .loop .i) (h .loop .inv .1) (h .loop .inv .0) (omega arith), refl)
+    (reports (a .acts .now) (h .loop .at) (a .n) (h .loop .i) (h .loop .inv .1) (h .loop .inv .0) (omega arith) (h .before .before .sized .ensures), refl)
 
 pub report-spec : {M : Type 1} → statement M
 report-spec =

@@ -20,6 +20,10 @@ returns c =
     let x = h .args in
     λ a s e M. comes-refused a (Rule.finish a s) (c .refused .result) _ _ _ _ RevisionExhausted (last-refused (x .heads .now) (x .ids .now) (x .shares .now) (x .minima .now) (h .pre) a s (x .top) (x .spare) M (e ∙ c .before .if1 .taken)) (c .refused .ensures .0) (c .refused .ensures .1)
 
+-- the silent list of actions has the one place that it is lent with
+slice-aggregate-settle : tie.Need-slice-aggregate-settle
+slice-aggregate-settle c = search needs
+
 settle-requires : tie.Need-settle-requires
 settle-requires c κs =
     let h = c .before .before .before .before .before .before in
@@ -29,8 +33,8 @@ settle-requires c κs =
 enum-told : tie.Need-enum-told
 enum-told c = search needs
 
-add-t23 : tie.Need-add-t23
-add-t23 c = search needs
+add-t24 : tie.Need-add-t24
+add-t24 c = search needs
 
 enum-known-answer : tie.Need-enum-known-answer
 enum-known-answer c = search needs
@@ -40,11 +44,13 @@ refused-requires-2 c κs = search needs
 
 returns-2 : tie.Need-returns-2
 returns-2 c =
-    let h = c .before .before .before .before .before .before .before .before .before in
+    let w = c .before .before .before in
+    let e1 = w .before .before .before .before .before .before in
+    let h = e1 .before in
     let x = h .args in
-    let S = c .before .before .settle .ensures in
+    let S = w .settle .ensures in
     let yes = c .enum-told .given .1 in
-    let lt : x .revision < last-revision = omega (arith, c .before .before .before .before .before .before .before .before .if1 .left) in
+    let lt : x .revision < last-revision = omega (arith, e1 .if1 .left) in
     λ a s e M.
     let k = S .right (suc (a .revision)) (M .change .free) (M .inside) (M .first) in
     let F = change-taken (x .heads .now) (x .ids .now) (x .shares .now) (x .minima .now) (h .pre) a s (x .top) (x .spare) M (omega (arith, lt, e)) (sym (k .answer) ∙ yes) in
@@ -54,10 +60,12 @@ returns-2 c =
 
 returns-3 : tie.Need-returns-3
 returns-3 c =
-    let h = c .before .before .before .before .before .before .before .before .before .before .before in
+    let w = c .before .before .before .before .before in
+    let e1 = w .before .before .before .before .before .before in
+    let h = e1 .before in
     let x = h .args in
-    let S = c .before .before .before .before .settle .ensures in
-    let lt : x .revision < last-revision = omega (arith, c .before .before .before .before .before .before .before .before .before .before .if1 .left) in
+    let S = w .settle .ensures in
+    let lt : x .revision < last-revision = omega (arith, e1 .if1 .left) in
     λ a s e M.
     let k = S .right (suc (a .revision)) (M .change .free) (M .inside) (M .first) in
     comes-refused a (Rule.finish a s) (c .refused2 .result) _ _ _ _ _ (change-refused (x .heads .now) (x .ids .now) (x .shares .now) (x .minima .now) (h .pre) a s (x .top) (x .spare) M (omega (arith, lt, e)) _ (sym (k .answer) ∙ c .before .before .answer .given .1)) (c .refused2 .ensures .0) (c .refused2 .ensures .1)
@@ -68,9 +76,10 @@ change-spec =
     (tie.spec
     refused-requires
     returns
+    slice-aggregate-settle
     settle-requires
     enum-told
-    add-t23
+    add-t24
     enum-known-answer
     refused-requires-2
     returns-2

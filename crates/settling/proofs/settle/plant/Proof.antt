@@ -30,8 +30,13 @@ finish-requires c κs =
     let p = v .pre in
     (length-set (x .heads .now) (x .spare) blankHead ∙ p .0, length-set (x .claimed .now) (x .spare) true ∙ p .1, p .2)
 
+same-length : tie.Need-same-length
+same-length c = search needs
+
 returns-2 : tie.Need-returns-2
-returns-2 c = record { full = λ h. absurd (omega (arith, h, c .before .before .before .before .if1 .left)); fresh = λ h. c .finish .ensures }
+returns-2 c =
+    let f = c .before in
+    record { full = λ h. absurd (omega (arith, h, f .before .before .before .before .if1 .left)); fresh = λ h. f .finish .ensures }
 
 pub plant-spec : {M : Type 1} → statement M
 plant-spec =
@@ -43,4 +48,5 @@ plant-spec =
     element-set-from-heads
     element-write-claimed
     finish-requires
+    same-length
     returns-2)

@@ -27,14 +27,18 @@ settle-requires c κs =
     let o = e .before in
     (o .before .before .pre, sym (o .heads-over .ensures) ∙ e .if1 .left)
 
+same-length : tie.Need-same-length
+same-length c = search needs
+
 returns-2 : tie.Need-returns-2
 returns-2 c =
-    let f = c .before .before .before .before .before .before in
+    let s = c .before in
+    let f = s .before .before .before .before .before .before in
     let e = f .before .before in
     let o = e .before in
     let v = o .before .before in
     let x = v .args in
-    mends-whole (x .root) (x .heads .now) (x .ids .now) (x .shares .now) (x .minima .now) (v .pre) _ _ _ _ _ (c .settle .result) (sym (o .heads-over .ensures) ∙ e .if1 .left) (f .first-empty .result) (f .first-empty .ensures) (c .settle .ensures)
+    mends-whole (x .root) (x .heads .now) (x .ids .now) (x .shares .now) (x .minima .now) (v .pre) _ _ _ _ _ (s .settle .result) (sym (o .heads-over .ensures) ∙ e .if1 .left) (f .first-empty .result) (f .first-empty .ensures) (s .settle .ensures)
 
 pub repair-columns-spec : {M : Type 1} → statement M
 repair-columns-spec =
@@ -45,4 +49,5 @@ repair-columns-spec =
     returns
     first-empty-requires
     settle-requires
+    same-length
     returns-2)

@@ -19,7 +19,7 @@ enum-known-kept c = search needs
 
 finish-requires : tie.Need-finish-requires
 finish-requires c κs =
-    let W = c .before .before .before .before .before .before .before .normalize-node .ensures in
+    let W = c .before .before .before .before .before .before .before .before .normalize-node .ensures in
     (W .sized .heads, W .sized .flags, room-left _ (W .sized))
 
 enum-told : tie.Need-enum-told
@@ -27,7 +27,7 @@ enum-told c = search needs
 
 plant-requires : tie.Need-plant-requires
 plant-requires c κs =
-    let W = c .before .before .before .before .before .before .normalize-node .ensures in
+    let W = c .before .before .before .before .before .before .before .normalize-node .ensures in
     (W .sized .heads, W .sized .flags, room-left _ (W .sized))
 
 enum-told-2 : tie.Need-enum-told-2
@@ -36,24 +36,35 @@ enum-told-2 c = search needs
 refused-requires : tie.Need-refused-requires
 refused-requires c κs = search needs
 
+same-length : tie.Need-same-length
+same-length c = search needs
+
 returns : tie.Need-returns
 returns c =
-    let w = c .before .before .before .before .before .before .before .before in
+    let e = c .before in
+    let w = e .before .before .before .before .before .before .before .before .before in
     let v = w .before .before .before .before .before .before .before .before in
     let x = v .args in
-    let k = c .before .before .before .before .before .kept in
-    ends-kept (x .root) (x .heads .now) (x .ids .now) (x .shares .now) (x .minima .now) (v .pre .0) _ _ _ (w .normalize-node .result .kept) (w .normalize-node .ensures) (x .spare) _ _ (c .finish .result) (k .given .0 .0) (k .given .1) (c .finish .ensures)
+    let k = e .before .before .before .before .before .kept in
+    ends-kept (x .root) (x .heads .now) (x .ids .now) (x .shares .now) (x .minima .now) (v .pre .0) _ _ _ (w .normalize-node .result .kept) (w .normalize-node .ensures) (x .spare) _ _ (e .finish .result) (k .given .0 .0) (k .given .1) (e .finish .ensures)
+
+same-length-2 : tie.Need-same-length-2
+same-length-2 c = search needs
 
 returns-2 : tie.Need-returns-2
 returns-2 c =
-    let w = c .before .before .before .before .before .before .before in
+    let e = c .before in
+    let w = e .before .before .before .before .before .before .before .before in
     let v = w .before .before .before .before .before .before .before .before in
     let x = v .args in
-    ends-gone (x .root) (x .heads .now) (x .ids .now) (x .shares .now) (x .minima .now) (v .pre .0) _ _ _ (w .normalize-node .result .kept) (w .normalize-node .ensures) (x .spare) _ _ (c .plant .result) (c .before .before .before .before .enum-told .given .1) (c .plant .ensures)
+    ends-gone (x .root) (x .heads .now) (x .ids .now) (x .shares .now) (x .minima .now) (v .pre .0) _ _ _ (w .normalize-node .result .kept) (w .normalize-node .ensures) (x .spare) _ _ (e .plant .result) (e .before .before .before .before .enum-told .given .1) (e .plant .ensures)
+
+same-length-3 : tie.Need-same-length-3
+same-length-3 c = search needs
 
 returns-3 : tie.Need-returns-3
 returns-3 c =
-    let w = c .before .before .before .before in
+    let w = c .before .before .before .before .before in
     let v = w .before .before .before .before .before .before .before .before in
     let x = v .args in
     ends-wide (x .root) (x .heads .now) (x .ids .now) (x .shares .now) (x .minima .now) (v .pre .0) _ _ _ (w .normalize-node .result .kept) (w .normalize-node .ensures) (x .spare) _ _ (c .refused .result) (c .before .enum-told2 .given .1) (c .refused .ensures)
@@ -69,6 +80,9 @@ settle-spec =
     plant-requires
     enum-told-2
     refused-requires
+    same-length
     returns
+    same-length-2
     returns-2
+    same-length-3
     returns-3)

@@ -40,7 +40,7 @@ retain-requires c κs =
 
 note-requires : tie.Need-note-requires
 note-requires c κs =
-    let r = c .before .before .before .before .before in
+    let r = c .before .before .before .before .before .before in
     let b = r .before .before .before .before .before in
     let a = b .args in
     let o = open-room (a .heads .now) (a .claimed .now) (a .c) (a .id) (b .pre .0) in
@@ -48,29 +48,33 @@ note-requires c κs =
     let h : r .retain .result .counts .acts < 1300 = omega (arith, o .1, f .1) in
     h
 
-mul-t36 : tie.Need-mul-t36
-mul-t36 c = search needs
+mul-t38 : tie.Need-mul-t38
+mul-t38 c = search needs
 
 element-set-from-heads : tie.Need-element-set-from-heads
 element-set-from-heads c = search needs
 
+same-length : tie.Need-same-length
+same-length c = search needs
+
 returns : tie.Need-returns
 returns c ss ms S =
-    let t = c .before .before in
-    let r = t .before .before .before .before in
+    let n = c .before in
+    let t = n .before .before in
+    let r = t .before .before .before .before .before in
     let b = r .before .before .before .before .before in
     let a = b .args in
     group-none (a .heads .now) (a .ids .now) ss ms (a .claimed .now) (a .seen .now) (a .acts .now) (a .c) (a .id) S (b .pre .0) (b .pre .2)
     _ _ (r .retain .result .list) (r .retain .result .counts) (r .retain .ensures)
-    (replicate 8 0) _ (c .note .result) refl (omega arith, omega arith, omega arith) (t .if1 .taken)
-    (c .note .ensures (RemovedInvalidNode (tile (a .id))) refl refl refl)
+    (replicate 8 0) _ (n .note .result) refl (omega arith, omega arith, omega arith) (t .if1 .taken)
+    (n .note .ensures (RemovedInvalidNode (tile (a .id))) refl refl refl)
 
 array-read-active-of : tie.Need-array-read-active-of
 array-read-active-of c = search needs
 
 active-of-requires : tie.Need-active-of-requires
 active-of-requires c κs =
-    let r = c .before .before .before .before in
+    let r = c .before .before .before .before .before in
     let b = r .before .before .before .before .before in
     let f = retains-few _ _ _ _ _ _ _ _ _ _ (r .retain .ensures) (b .pre .3) in
     (b .pre .3, f .0)
@@ -80,7 +84,7 @@ array-read-note-if c = search needs
 
 note-if-requires : tie.Need-note-if-requires
 note-if-requires c κs =
-    let r = c .before .before .before .before .before .before in
+    let r = c .before .before .before .before .before .before .before in
     let b = r .before .before .before .before .before in
     let a = b .args in
     let o = open-room (a .heads .now) (a .claimed .now) (a .c) (a .id) (b .pre .0) in
@@ -97,18 +101,21 @@ element-set-from-at c = search needs
 array-read-t30 : tie.Need-array-read-t30
 array-read-t30 c = search needs
 
-mul-t43 : tie.Need-mul-t43
-mul-t43 c = search needs
+mul-t45 : tie.Need-mul-t45
+mul-t45 c = search needs
 
 element-set-from-heads-2 : tie.Need-element-set-from-heads-2
 element-set-from-heads-2 c = search needs
 
+same-length-2 : tie.Need-same-length-2
+same-length-2 c = search needs
+
 returns-2 : tie.Need-returns-2
 returns-2 c ss ms S =
-    let n = c .before in
+    let n = c .before .before in
     let v = n .before .before in
     let e = v .before in
-    let r = e .before .before .before .before in
+    let r = e .before .before .before .before .before in
     let b = r .before .before .before .before .before in
     let a = b .args in
     let f = retains-few _ _ _ _ _ _ _ _ _ _ (r .retain .ensures) (b .pre .3) in
@@ -131,8 +138,9 @@ group-step-spec =
     array-read-active
     retain-requires
     note-requires
-    mul-t36
+    mul-t38
     element-set-from-heads
+    same-length
     returns
     array-read-active-of
     active-of-requires
@@ -141,6 +149,7 @@ group-step-spec =
     mul-at
     element-set-from-at
     array-read-t30
-    mul-t43
+    mul-t45
     element-set-from-heads-2
+    same-length-2
     returns-2)

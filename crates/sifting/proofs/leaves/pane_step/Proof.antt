@@ -29,22 +29,26 @@ saw-requires c κs = search needs
 note-requires : tie.Need-note-requires
 note-requires c κs = search needs
 
-mul-t25 : tie.Need-mul-t25
-mul-t25 c = search needs
+mul-t26 : tie.Need-mul-t26
+mul-t26 c = search needs
 
 element-set-from-heads : tie.Need-element-set-from-heads
 element-set-from-heads c = search needs
 
+same-length : tie.Need-same-length
+same-length c = search needs
+
 returns : tie.Need-returns
 returns c xs ss ms S =
-    let i = c .before .before in
+    let n = c .before in
+    let i = n .before .before in
     let w = i .before in
     let b = w .before .before .before in
     let a = b .args in
     let p = getD (getD (a .heads .now) (a .id) []) 2 0 in
     pane-again (a .heads .now) xs ss ms (a .claimed .now) (a .seen .now) (a .acts .now) (a .c) (a .id) S (b .pre .0) p (b .pre .1) refl
-    (replicate 8 0) _ (c .note .result) refl (omega arith, omega arith, omega arith) (sym (w .saw .ensures) ∙ i .if1 .taken)
-    (c .note .ensures (RemovedDuplicatePane p (tile (a .id))) refl refl refl)
+    (replicate 8 0) _ (n .note .result) refl (omega arith, omega arith, omega arith) (sym (w .saw .ensures) ∙ i .if1 .taken)
+    (n .note .ensures (RemovedDuplicatePane p (tile (a .id))) refl refl refl)
 
 see-requires : tie.Need-see-requires
 see-requires c κs =
@@ -73,8 +77,9 @@ pane-step-spec =
     array-read-pane
     saw-requires
     note-requires
-    mul-t25
+    mul-t26
     element-set-from-heads
+    same-length
     returns
     see-requires
     returns-2)

@@ -13,9 +13,12 @@ saw-requires c κs = search needs
 note-requires : tie.Need-note-requires
 note-requires c κs = search needs
 
+same-length : tie.Need-same-length
+same-length c = search needs
+
 returns : tie.Need-returns
 returns c =
-    let n = c .before in
+    let n = c .before .before in
     let i = n .before .before in
     let w = i .before in
     let b = w .before .before .before in
@@ -41,4 +44,4 @@ returns-2 c =
 
 pub keep-pane-spec : {M : Type 1} → statement M
 keep-pane-spec =
-    tie.close (tie.spec saw-requires note-requires returns see-requires push-requires returns-2)
+    tie.close (tie.spec saw-requires note-requires same-length returns see-requires push-requires returns-2)

@@ -1,5 +1,5 @@
 -- `normalize::panes::retain` is the rule's `retain`: its loop, by what is left. Assumes nothing.
-use mathlib.Core.Path.{_≡_}
+use mathlib.Core.Path.{_≡_, refl, _∙_}
 use Prim.Native.Nat.{_-_}
 use native.Mathlib.Omega.{arith}
 use borrow.Author.Needs.{needs}
@@ -11,7 +11,7 @@ use Rattle.sifting.proofs.panes.retain.Statement.{statement}
 use Rattle.sifting.proofs.panes.retain.Tie as tie
 
 abbrev Inv-loop : tie.InvT-loop
-Inv-loop seen₀ acts₀ id at n s₀ j₀ seen acts s j = Sifting id (take n at) seen₀ acts₀ s₀ seen acts s j
+Inv-loop seen₀ acts₀ id at n s₀ j₀ seen acts s j = Sifting id (take n at) seen₀ acts₀ s₀ seen acts s j × (length acts ≡ length acts₀)
 
 abbrev μ-loop : tie.MeasureT-loop
 μ-loop seen₀ acts₀ id at n s₀ j₀ seen acts s j = n - j
@@ -23,7 +23,7 @@ loop-holds : tie.Need-loop-holds Inv-loop μ-loop
 loop-holds c =
     let b = c .before .before in
     let a = b .args in
-    sifting-none (a .id) (ids (a .panes)) (a .seen .now) (a .acts .now) (sifting (c .empty .result) (a .c)) (c .empty .ensures .size)
+    (sifting-none (a .id) (ids (a .panes)) (a .seen .now) (a .acts .now) (sifting (c .empty .result) (a .c)) (c .empty .ensures .size), refl)
 
 mul-keep-pane : tie.Need-mul-keep-pane Inv-loop μ-loop
 mul-keep-pane c = search needs
@@ -36,30 +36,36 @@ keep-pane-requires c κs =
     let i = c .before .before in
     let l = i .before in
     let b = l .before .before .before in (
-      omega (arith, l .loop .inv .short, i .loop-test .taken, b .pre .0),
-      omega (arith, l .loop .inv .seen-most, i .loop-test .taken, b .pre .0, b .pre .1),
-      omega (arith, l .loop .inv .acts-most, i .loop-test .taken, b .pre .0, b .pre .2),
+      omega (arith, l .loop .inv .0 .short, i .loop-test .taken, b .pre .0),
+      omega (arith, l .loop .inv .0 .seen-most, i .loop-test .taken, b .pre .0, b .pre .1),
+      omega (arith, l .loop .inv .0 .acts-most, i .loop-test .taken, b .pre .0, b .pre .2),
     )
 
 add-j : tie.Need-add-j Inv-loop μ-loop
 add-j c = search needs
 
 loop-less : tie.Need-loop-less Inv-loop μ-loop
-loop-less c = omega (arith, c .before .before .before .loop-test .taken)
+loop-less c = omega (arith, c .before .before .before .before .loop-test .taken)
 
 loop-again : tie.Need-loop-again Inv-loop μ-loop
 loop-again c =
-    let i = c .before .before .before in
+    let k = c .before in
+    let i = k .before .before .before in
     let l = i .before in
     let b = l .before .before .before in
     let a = b .args in
     let n = a .panes .len in
     let at = a .panes .at in
     let j = l .loop .j in
-    let s : length at ≡ 16 = search (needs, b .good .1 .1 .1 .1 .0) in
-    sifting-more (a .id) (take n at) (a .seen .now) (a .acts .now) (sifting (l .before .empty .result) (a .c)) (l .loop .seen) (l .loop .acts) (l .loop .s) j (l .loop .inv)
-    (omega (arith, length-take-le n at (omega (arith, s, b .pre .0)), i .loop-test .taken)) (getD at j 0) (getD-take n at j 0 (i .loop-test .taken))
-    _ _ (c .keep-pane .result) (c .keep-pane .ensures)
+    let s : length at ≡ 16 = search (needs, b .good .1 .1 .1 .1 .0) in (
+      sifting-more (a .id) (take n at) (a .seen .now) (a .acts .now) (sifting (l .before .empty .result) (a .c)) (l .loop .seen) (l .loop .acts) (l .loop .s) j (l .loop .inv .0)
+          (omega (arith, length-take-le n at (omega (arith, s, b .pre .0)), i .loop-test .taken)) (getD at j 0) (getD-take n at j 0 (i .loop-test .taken))
+          _ _ (k .keep-pane .result) (k .keep-pane .ensures),
+      c .acts .given ∙ l .loop .inv .1,
+    )
+
+same-length : tie.Need-same-length Inv-loop μ-loop
+same-length c = c .before .loop .inv .1
 
 returns : tie.Need-returns Inv-loop μ-loop
 returns c =
@@ -68,7 +74,7 @@ returns c =
     let a = b .args in
     let n = a .panes .len in
     let at = a .panes .at in
-    sifting-all (a .id) (take n at) (a .seen .now) (a .acts .now) (sifting (l .before .empty .result) (a .c)) (l .loop .seen) (l .loop .acts) (l .loop .s) (l .loop .j) (l .loop .inv)
+    sifting-all (a .id) (take n at) (a .seen .now) (a .acts .now) (sifting (l .before .empty .result) (a .c)) (l .loop .seen) (l .loop .acts) (l .loop .s) (l .loop .j) (l .loop .inv .0)
     (omega (arith, length-take n at, c .loop-test .left)) (l .before .empty .ensures)
 
 pub retain-spec : {M : Type 1} → statement M
@@ -85,4 +91,5 @@ retain-spec =
     add-j
     loop-less
     loop-again
+    same-length
     returns)
