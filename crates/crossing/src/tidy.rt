@@ -1,4 +1,4 @@
-// Heads as soundness and layout read them: a lent head may hold any number in a place that its kind doesn't use, and so a length that is none.
+// Heads as the calls on columns read them: a lent head may hold any number in a place that its kind doesn't use, and so a length that is none.
 use coding::codes;
 ghost use mathlib.Core.Path.{_≡_};
 ghost use mathlib.Core.List.{map};
@@ -20,15 +20,25 @@ fn tidy_head(h: [u64; 8]) -> [u64; 8]
     h
 }
 
+// The heads themselves, made tidy.
+pub fn tidy_lent(heads: &mut [[u64; 8]; 64])
+    ensures { λ r. ⌜ now (heads .exit) ≡ map tidied (now (heads .entry)) ⌝ }
+{
+    codes::heads_sized(heads);
+    let mut i = 0usize;
+    while i < 64 {
+        let h = heads[i];
+        let d = tidy_head(h);
+        heads[i] = d;
+        i += 1;
+    }
+}
+
+// The same of a copy, for calls that only read.
 pub fn tidy(heads: &[[u64; 8]; 64]) -> [[u64; 8]; 64]
     ensures { λ r. ⌜ r ≡ map tidied (now (heads .entry)) ⌝ }
 {
-    codes::heads_sized(heads);
-    let mut a = [[0u64; 8]; 64];
-    for i in 0..64usize {
-        let h = heads[i];
-        let d = tidy_head(h);
-        a[i] = d;
-    }
+    let mut a = *heads;
+    tidy_lent(&mut a);
     a
 }
