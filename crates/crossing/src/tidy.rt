@@ -1,8 +1,10 @@
 // Heads as the calls on columns read them: a lent head may hold any number in a place that its kind doesn't use, and so a length that is none.
 use coding::codes;
+use columns::unpack;
 ghost use mathlib.Core.Path.{_≡_};
 ghost use mathlib.Core.List.{map};
 ghost use Rattle.coding.specs.Lent.{tidied};
+ghost use Rattle.crossing.specs.Parts.{tidyHeads};
 
 fn tidy_head(h: [u64; 8]) -> [u64; 8]
     ensures { λ r. ⌜ r ≡ tidied h ⌝ }
@@ -20,8 +22,7 @@ fn tidy_head(h: [u64; 8]) -> [u64; 8]
     h
 }
 
-// The heads themselves, made tidy.
-pub fn tidy_lent(heads: &mut [[u64; 8]; 64])
+fn tidy_all(heads: &mut [[u64; 8]; 64])
     ensures { λ r. ⌜ now (heads .exit) ≡ map tidied (now (heads .entry)) ⌝ }
 {
     codes::heads_sized(heads);
@@ -34,9 +35,20 @@ pub fn tidy_lent(heads: &mut [[u64; 8]; 64])
     }
 }
 
+// The heads themselves, made tidy. Where no length is over 16, as in all that a call leaves, nothing is written.
+pub fn tidy_lent(heads: &mut [[u64; 8]; 64])
+    ensures { λ r. ⌜ now (heads .exit) ≡ tidyHeads (now (heads .entry)) ⌝ }
+{
+    codes::heads_sized(heads);
+    if !unpack::heads_over(heads) {
+        return;
+    }
+    tidy_all(heads)
+}
+
 // The same of a copy, for calls that only read.
 pub fn tidy(heads: &[[u64; 8]; 64]) -> [[u64; 8]; 64]
-    ensures { λ r. ⌜ r ≡ map tidied (now (heads .entry)) ⌝ }
+    ensures { λ r. ⌜ r ≡ tidyHeads (now (heads .entry)) ⌝ }
 {
     let mut a = *heads;
     tidy_lent(&mut a);

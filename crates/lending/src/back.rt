@@ -9,7 +9,7 @@ ghost use Rattle.columns.specs.Columns.{barFrom, axisFrom};
 ghost use Rattle.columns.specs.Shown.{arenaFrom};
 ghost use Rattle.coding.specs.Lent.{lot};
 ghost use Rattle.crossing.specs.Parts.{Holds, Keeps};
-ghost use Rattle.lending.specs.Back.{fitted};
+ghost use Rattle.lending.specs.Back.{fitted, fitHeads};
 
 // A group's mode: any number past 4 is read as 4.
 fn bar_code(mode: u64) -> u64
@@ -43,7 +43,7 @@ fn fit_head(h: [u64; 8]) -> [u64; 8]
     [3u64, axis, 0, 0, h[4], h[5], h[6], 0]
 }
 
-fn fit(heads: &mut [[u64; 8]; 64])
+fn fit_all(heads: &mut [[u64; 8]; 64])
     ensures { λ r. ⌜ now (heads .exit) ≡ map fitted (now (heads .entry)) ⌝ }
 {
     codes::heads_sized(heads);
@@ -54,6 +54,16 @@ fn fit(heads: &mut [[u64; 8]; 64])
         heads[i] = f;
         i += 1;
     }
+}
+
+// Where every code is one that calls take, nothing is written.
+fn fit(heads: &mut [[u64; 8]; 64])
+    ensures { λ r. ⌜ now (heads .exit) ≡ fitHeads (now (heads .entry)) ⌝ }
+{
+    if codes::codes_ok(heads) {
+        return;
+    }
+    fit_all(heads)
 }
 
 // The lent arrays hold the arena that the columns in them show. Ids, shares and minima stay as they are, whatever they are.
