@@ -1,2 +1,3 @@
+pub mod PlaceLaws
 pub mod TidyLaws
 pub mod WriteLaws

@@ -1,6 +1,6 @@
 -- Laws of tidied heads: they show the same arena, and a length over 16 stands only where it counts. Assumes nothing.
 use mathlib.Core.Path.{_≡_, refl, sym, ap, _∙_}
-use mathlib.Core.Bool.{_||_, false, or-false}
+use mathlib.Core.Bool.{Bool, true, false, _||_, or-false}
 use mathlib.Core.List.{List, [], _∷_, map}
 use Prim.Native.Nat.{ℕ, zero, suc}
 use lib.Dec.{ltb}
@@ -10,8 +10,10 @@ use Rattle.rules.specs.Lists.{anyOf}
 use Rattle.rules.specs.Tree.{tile}
 use Rattle.columns.specs.Columns.{nodeBy, nodeFrom, nodesFrom}
 use Rattle.columns.specs.Pack.{overHead, overKind, overOf}
+use Rattle.columns.specs.PackLaws.{or-left, or-right}
 use Rattle.columns.specs.Shown.{Plain}
 use Rattle.coding.specs.Lent.{lot, lent, tidiedBy, tidied}
+use Rattle.crossing.specs.Parts.{tidyBy, tidyHeads}
 
 pub tidied-split : (k : ℕ) (h : List ℕ) → (k ≡ 0 → ⊥) → (k ≡ 1 → ⊥) → (k ≡ 2 → ⊥) → h ≡ tidiedBy k h
 tidied-split zero h a b c = absurd (a refl)
@@ -55,12 +57,49 @@ unused-tidy : (hs : List (List ℕ)) → map overHead (map tidied hs) ≡ map ov
 unused-tidy [] = refl
 unused-tidy (h ∷ hs) = λ z. plain-tidy h (getD h 0 0) refl z ∷ unused-tidy hs z
 
-module _ (hs hs′ xs : List (List ℕ)) (ss ms : List (List Float)) (e : hs′ ≡ map tidied hs) where
+-- ---- where no length is over 16 the heads stay as they are
+
+none-over : (k : ℕ) (h : List ℕ) → overHead h ≡ false → overKind k h ≡ false
+none-over zero h e = refl
+none-over (suc zero) h e = refl
+none-over (suc (suc zero)) h e =
+    let a = ltb 16 (getD h 4 0) in
+    let b = ltb 16 (getD h 5 0) in
+    or-left a b (or-left (a || b) (ltb 16 (getD h 6 0)) e)
+none-over (suc (suc (suc k))) h e = e
+
+unused-none : (hs : List (List ℕ)) → anyOf overHead hs ≡ false → map overHead hs ≡ map overOf hs
+unfolding anyOf
+unused-none [] e = refl
+unused-none (h ∷ hs) e =
+    let a : overHead h ≡ false = or-left (overHead h) (anyOf overHead hs) e in
+    λ z. (a ∙ sym (none-over (getD h 0 0) h a)) z ∷ unused-none hs (or-right (overHead h) (anyOf overHead hs) e) z
+
+nodes-by : (b : Bool) (hs xs : List (List ℕ)) (ss ms : List (List Float)) → nodesFrom (tidyBy b hs) xs ss ms ≡ nodesFrom hs xs ss ms
+nodes-by true hs xs ss ms = nodes-tidy hs xs ss ms
+nodes-by false hs xs ss ms = refl
+
+overs-by : (b : Bool) (hs : List (List ℕ)) → anyOf overOf (tidyBy b hs) ≡ anyOf overOf hs
+overs-by true hs = overs-tidy hs
+overs-by false hs = refl
+
+length-by : (b : Bool) (hs : List (List ℕ)) → length (tidyBy b hs) ≡ length hs
+length-by true hs = length-map hs tidied
+length-by false hs = refl
+
+unused-by : (b : Bool) (hs : List (List ℕ)) → anyOf overHead hs ≡ b → map overHead (tidyBy b hs) ≡ map overOf (tidyBy b hs)
+unused-by true hs e = unused-tidy hs
+unused-by false hs e = unused-none hs e
+
+module _ (hs hs′ xs : List (List ℕ)) (ss ms : List (List Float)) (e : hs′ ≡ tidyHeads hs) where
   pub tidy-lent : (top : List ℕ) → lent (lot top hs′ xs ss ms) ≡ lent (lot top hs xs ss ms)
   tidy-lent top =
-      let nodes = ap (λ (l : List (List ℕ)). nodesFrom l xs ss ms) e ∙ nodes-tidy hs xs ss ms in
-      let over = ap (anyOf overOf) e ∙ overs-tidy hs in
+      let b = anyOf overHead hs in
+      let nodes = ap (λ (l : List (List ℕ)). nodesFrom l xs ss ms) e ∙ nodes-by b hs xs ss ms in
+      let over = ap (anyOf overOf) e ∙ overs-by b hs in
       λ z. record { root = tile (getD top 0 0); revision = getD top 1 0; nodes = nodes z; over = over z }
 
   pub tidy-plain : (length hs ≡ 64) × (length xs ≡ 64) × (length ss ≡ 64) × (length ms ≡ 64) → Plain hs′ xs ss ms
-  tidy-plain (a, b, c, d) = record { heads = ap length e ∙ length-map hs tidied ∙ a; ids = b; shares = c; minima = d; unused = ap (map overHead) e ∙ unused-tidy hs ∙ sym (ap (map overOf) e) }
+  tidy-plain (a, b, c, d) =
+      let t = anyOf overHead hs in
+      record { heads = ap length e ∙ length-by t hs ∙ a; ids = b; shares = c; minima = d; unused = ap (map overHead) e ∙ unused-by t hs refl ∙ sym (ap (map overOf) e) }

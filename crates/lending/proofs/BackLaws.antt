@@ -1,6 +1,6 @@
 -- Laws of heads as they are written back: they show the same arena, and every call takes their codes. Assumes nothing.
 use mathlib.Core.Path.{_≡_, refl, ap, _∙_}
-use mathlib.Core.Bool.{true, _&&_, _||_}
+use mathlib.Core.Bool.{Bool, true, false, _&&_, _||_}
 use mathlib.Core.List.{List, [], _∷_, map}
 use Prim.Native.Nat.{ℕ, zero, suc, _≤_, _<_}
 use native.Mathlib.Omega.{arith}
@@ -17,7 +17,7 @@ use Rattle.columns.specs.Pack.{overKind, overOf}
 use Rattle.columns.specs.Shown.{arenaFrom}
 use Rattle.coding.specs.Lent.{lot, codeOk, codesOk}
 use Rattle.crossing.specs.Parts.{Holds}
-use Rattle.lending.specs.Back.{fittedBy, fitted}
+use Rattle.lending.specs.Back.{fittedBy, fitted, fitBy, fitHeads}
 use Rattle.coding.proofs.CodeLaws.{bar-ok, axis-ok}
 
 -- ---- modes, by what the branches of the code know
@@ -99,8 +99,23 @@ unfolding allOf
 codes-fit [] = refl
 codes-fit (h ∷ hs) = λ z. code-fit h (getD h 0 0) z && codes-fit hs z
 
-pub fit-holds : (root v : ℕ) (hs xs : List (List ℕ)) (ss ms : List (List Float)) (hs′ : List (List ℕ)) → hs′ ≡ map fitted hs → Holds (arenaFrom root v hs xs ss ms) (lot (root ∷ v ∷ []) hs′ xs ss ms)
+-- ---- the same where they stay as they are
+
+nodes-by : (b : Bool) (hs xs : List (List ℕ)) (ss ms : List (List Float)) → nodesFrom (fitBy b hs) xs ss ms ≡ nodesFrom hs xs ss ms
+nodes-by true hs xs ss ms = refl
+nodes-by false hs xs ss ms = nodes-fit hs xs ss ms
+
+overs-by : (b : Bool) (hs : List (List ℕ)) → anyOf overOf (fitBy b hs) ≡ anyOf overOf hs
+overs-by true hs = refl
+overs-by false hs = overs-fit hs
+
+codes-by : (b : Bool) (hs : List (List ℕ)) → codesOk hs ≡ b → codesOk (fitBy b hs) ≡ true
+codes-by true hs e = e
+codes-by false hs e = codes-fit hs
+
+pub fit-holds : (root v : ℕ) (hs xs : List (List ℕ)) (ss ms : List (List Float)) (hs′ : List (List ℕ)) → hs′ ≡ fitHeads hs → Holds (arenaFrom root v hs xs ss ms) (lot (root ∷ v ∷ []) hs′ xs ss ms)
 fit-holds root v hs xs ss ms hs′ e =
-    let nodes = ap (λ (l : List (List ℕ)). nodesFrom l xs ss ms) e ∙ nodes-fit hs xs ss ms in
-    let over = ap (anyOf overOf) e ∙ overs-fit hs in
-    record { arena = λ z. record { root = tile root; revision = v; nodes = nodes z; over = over z }; codes = ap codesOk e ∙ codes-fit hs }
+    let b = codesOk hs in
+    let nodes = ap (λ (l : List (List ℕ)). nodesFrom l xs ss ms) e ∙ nodes-by b hs xs ss ms in
+    let over = ap (anyOf overOf) e ∙ overs-by b hs in
+    record { arena = λ z. record { root = tile root; revision = v; nodes = nodes z; over = over z }; codes = ap codesOk e ∙ codes-by b hs refl }

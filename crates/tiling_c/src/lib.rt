@@ -32,24 +32,12 @@ pub extern "C" fn tiling_from_spec(
 ) -> u64
     ensures { λ r. ⌜ Builds (now (bytes .entry)) (lot (now (top .exit)) (now (heads .exit)) (now (ids .exit)) (now (shares .exit)) (now (minima .exit))) (now (out .exit)) r ⌝ }
 {
-    let mut made = [[0u64; 8]; 64];
-    let mut rows = [[0u64; 16]; 64];
-    let mut parts = [[0.0f64; 16]; 64];
-    let mut least = [[0.0f64; 16]; 64];
-    let r = spec::whole::spec_into(bytes, &mut made, &mut rows, &mut parts, &mut least);
-    back::store_columns(
-        r.root,
-        0,
-        &made,
-        &rows,
-        &parts,
-        &least,
-        top,
-        heads,
-        ids,
-        shares,
-        minima,
-    );
+    *heads = [[0u64; 8]; 64];
+    *ids = [[0u64; 16]; 64];
+    *shares = [[0.0f64; 16]; 64];
+    *minima = [[0.0f64; 16]; 64];
+    let r = spec::whole::spec_into(bytes, heads, ids, shares, minima);
+    back::store(r.root, 0, top, heads);
     let answer = r.answer;
     told::tell(answer, 0, 0, out)
 }
@@ -71,20 +59,14 @@ pub extern "C" fn tiling_repair(
         return BAD_INPUT;
     }
     arena::sized(heads, ids, shares, minima);
-    let mut plain = tidy::tidy(heads);
-    let mut rows = *ids;
-    let mut parts = *shares;
-    let mut least = *minima;
+    let old_heads = *heads;
+    let old_ids = *ids;
+    let old_shares = *shares;
+    let old_minima = *minima;
+    tidy::tidy_lent(heads);
     let mut list = [[0u64; 3]; 1300];
     let words = *top;
-    let d = settling::settle::repair_columns(
-        words[0],
-        &mut plain,
-        &mut rows,
-        &mut parts,
-        &mut least,
-        &mut list,
-    );
+    let d = settling::settle::repair_columns(words[0], heads, ids, shares, minima, &mut list);
     let answer = d.answer;
     let n = told::tell(answer, d.count as u64, 0, out);
     actions::write(&list, d.count, acts);
@@ -92,10 +74,10 @@ pub extern "C" fn tiling_repair(
         n,
         d.root,
         words[1],
-        &plain,
-        &rows,
-        &parts,
-        &least,
+        &old_heads,
+        &old_ids,
+        &old_shares,
+        &old_minima,
         top,
         heads,
         ids,
@@ -150,30 +132,23 @@ pub extern "C" fn tiling_apply(
     }
     arena::sized(heads, ids, shares, minima);
     let op = operation::op_of(words, fraction);
-    let mut plain = tidy::tidy(heads);
-    let mut rows = *ids;
-    let mut parts = *shares;
-    let mut least = *minima;
+    let old_heads = *heads;
+    let old_ids = *ids;
+    let old_shares = *shares;
+    let old_minima = *minima;
+    tidy::tidy_lent(heads);
     let given = *top;
-    let d = ops::whole::apply_columns(
-        given[0],
-        given[1],
-        op,
-        &mut plain,
-        &mut rows,
-        &mut parts,
-        &mut least,
-    );
+    let d = ops::whole::apply_columns(given[0], given[1], op, heads, ids, shares, minima);
     let answer = d.answer;
     let n = told::tell(answer, 0, 0, out);
     back::keep_columns(
         n,
         d.root,
         d.revision,
-        &plain,
-        &rows,
-        &parts,
-        &least,
+        &old_heads,
+        &old_ids,
+        &old_shares,
+        &old_minima,
         top,
         heads,
         ids,

@@ -1,82 +1,29 @@
--- `lending::back::fit` makes one head after another. Assumes nothing.
-use mathlib.Core.Path.{_≡_}
-use mathlib.Core.List.{[], map}
-use Prim.Native.Nat.{_≤_, _-_}
-use native.Mathlib.Omega.{arith}
-use lib.ListN.{length, length-set}
-use Rattle.columns.specs.PackLaws.{Copied, mapped-none, mapped-more, mapped-all}
-use Rattle.lending.specs.Back.{fitted}
+-- `lending::back::fit` makes all heads anew where a code is out of its range. Assumes nothing.
+use mathlib.Core.Path.{sym, ap, _∙_}
+use mathlib.Core.Bool.{Bool}
+use Rattle.lending.specs.Back.{fitBy}
 use borrow.Author.Needs.{needs}
 use Rattle.lending.proofs.back.fit.Statement.{statement}
 use Rattle.lending.proofs.back.fit.Tie as tie
 
-abbrev Inv-loop : tie.InvT-loop
-Inv-loop made heads₀ i₀ heads i = (length made ≡ 64) × (length heads ≡ 64) × (i ≤ 64) × Copied (map fitted made) i heads
+codes-ok-requires : tie.Need-codes-ok-requires
+codes-ok-requires c κs = search needs
 
-abbrev μ-loop : tie.MeasureT-loop
-μ-loop made heads₀ i₀ heads i = 64 - i
-
-heads-sized-requires : tie.Need-heads-sized-requires Inv-loop μ-loop
-heads-sized-requires c κs = search needs
-
-heads-sized-requires-2 : tie.Need-heads-sized-requires-2 Inv-loop μ-loop
-heads-sized-requires-2 c κs = search needs
-
-loop-holds : tie.Need-loop-holds Inv-loop μ-loop
-loop-holds c =
-    let m = c .before .before in
-    let x = m .before .args in
-    (m .heads-sized .ensures, c .heads-sized2 .ensures, omega arith, mapped-none fitted (x .made .now) 64 (m .heads-sized .ensures) (x .heads .now) (c .heads-sized2 .ensures))
-
-mul-h : tie.Need-mul-h Inv-loop μ-loop
-mul-h c = search needs
-
-element-copy-out-h : tie.Need-element-copy-out-h Inv-loop μ-loop
-element-copy-out-h c = omega (arith, c .before .loop .inv .0)
-
-fit-head-requires : tie.Need-fit-head-requires Inv-loop μ-loop
-fit-head-requires c κs = search needs
-
-mul-f : tie.Need-mul-f Inv-loop μ-loop
-mul-f c = search needs
-
-element-set-from-f : tie.Need-element-set-from-f Inv-loop μ-loop
-element-set-from-f c = let h = c .before .before .before in omega (arith, h .loop .inv .1)
-
-add-i : tie.Need-add-i Inv-loop μ-loop
-add-i c = search needs
-
-loop-less : tie.Need-loop-less Inv-loop μ-loop
-loop-less c = search needs
-
-loop-again : tie.Need-loop-again Inv-loop μ-loop
-loop-again c =
-    let h = c .before .before .before in
-    let v = h .loop .inv in
-    let x = h .before .before .before .before .args in
-    (v .0, search (needs, length-set), omega arith, mapped-more fitted (x .made .now) 64 (v .0) (h .loop .heads) (h .loop .i) [] [] (c .fit-head .result) (v .3) (omega arith) (c .fit-head .ensures))
-
-returns : tie.Need-returns Inv-loop μ-loop
+returns : tie.Need-returns
 returns c =
-    let h = c .before in
-    let v = h .loop .inv in
-    mapped-all fitted (h .before .before .before .before .args .made .now) 64 (v .0) (h .loop .heads) (h .loop .i) (v .3) (omega arith)
+    let o = c .before in
+    let h = o .before .before .args .heads .now in
+    ap (λ (b : Bool). fitBy b h) (sym (c .if1 .taken) ∙ o .codes-ok .ensures)
+
+fit-all-requires : tie.Need-fit-all-requires
+fit-all-requires c κs = search needs
+
+returns-2 : tie.Need-returns-2
+returns-2 c =
+    let e = c .before .before in
+    let o = e .before in
+    let h = o .before .before .args .heads .now in
+    c .fit-all .ensures ∙ ap (λ (b : Bool). fitBy b h) (sym (e .if1 .left) ∙ o .codes-ok .ensures)
 
 pub fit-spec : {M : Type 1} → statement M
-fit-spec =
-    tie.close
-    (tie.spec
-    Inv-loop
-    μ-loop
-    heads-sized-requires
-    heads-sized-requires-2
-    loop-holds
-    mul-h
-    element-copy-out-h
-    fit-head-requires
-    mul-f
-    element-set-from-f
-    add-i
-    loop-less
-    loop-again
-    returns)
+fit-spec = tie.close (tie.spec codes-ok-requires returns fit-all-requires returns-2)
