@@ -12,14 +12,14 @@ use lib.Ieee.{Float, nan, binary64, add}
 use Rattle.rules.specs.Numbers.{zero-f}
 use Rattle.rules.specs.Solver.{sumBy, part, start, short, flexible, pin, spread, anyShort}
 use Rattle.rules.specs.declared.solving.Kid.{Kid}
-use Rattle.loops.specs.Columns.{kid, kidsOf, unfixed, Long, Worked, Tallied, Turned}
+use Rattle.loops.specs.Columns.{kid, kidsShown, unfixed, Long, Worked, Tallied, Turned}
 use Rattle.loops.specs.declared.kids.Turn.{Turn}
 use Rattle.loops.proofs.Loops.{kid0, rest-at, rest-none, Summed, summed-step, summed-end}
 use Rattle.loops.proofs.Filling.{map-more, take-replicate}
 
 -- ---- columns of one length show as many children, each its row
-kids-even : (ss ms xs : List Float) (fs : List Bool) → length ms ≡ length ss → length xs ≡ length ss → length fs ≡ length ss → length (kidsOf ss ms xs fs) ≡ length ss
-unfolding kidsOf
+kids-even : (ss ms xs : List Float) (fs : List Bool) → length ms ≡ length ss → length xs ≡ length ss → length fs ≡ length ss → length (kidsShown ss ms xs fs) ≡ length ss
+unfolding kidsShown
 kids-even [] ms xs fs p q r = refl
 kids-even (s ∷ ss) [] xs fs p q r = absurd (omega arith)
 kids-even (s ∷ ss) (m ∷ ms) [] fs p q r = absurd (omega arith)
@@ -27,8 +27,8 @@ kids-even (s ∷ ss) (m ∷ ms) (x ∷ xs) [] p q r = absurd (omega arith)
 kids-even (s ∷ ss) (m ∷ ms) (x ∷ xs) (f ∷ fs) p q r = ap suc (kids-even ss ms xs fs (omega arith) (omega arith) (omega arith))
 
 kids-even-at : (ss ms xs : List Float) (fs : List Bool) → length ms ≡ length ss → length xs ≡ length ss → length fs ≡ length ss
-    → (i : ℕ) → i < length ss → getD (kidsOf ss ms xs fs) i kid0 ≡ kid (getD ss i nan) (getD ms i nan) (getD xs i nan) (getD fs i false)
-unfolding kidsOf
+    → (i : ℕ) → i < length ss → getD (kidsShown ss ms xs fs) i kid0 ≡ kid (getD ss i nan) (getD ms i nan) (getD xs i nan) (getD fs i false)
+unfolding kidsShown
 kids-even-at [] ms xs fs p q r i h = absurd (omega arith)
 kids-even-at (s ∷ ss) [] xs fs p q r i h = absurd (omega arith)
 kids-even-at (s ∷ ss) (m ∷ ms) [] fs p q r i h = absurd (omega arith)
@@ -36,8 +36,8 @@ kids-even-at (s ∷ ss) (m ∷ ms) (x ∷ xs) [] p q r i h = absurd (omega arith
 kids-even-at (s ∷ ss) (m ∷ ms) (x ∷ xs) (f ∷ fs) p q r zero h = refl
 kids-even-at (s ∷ ss) (m ∷ ms) (x ∷ xs) (f ∷ fs) p q r (suc i) h = kids-even-at ss ms xs fs (omega arith) (omega arith) (omega arith) i (omega arith)
 
-sizes-even : (n : ℕ) (ss ms xs : List Float) (fs : List Bool) → length ms ≡ length ss → length xs ≡ length ss → length fs ≡ length ss → map (λ (k : Kid). k .size) (take n (kidsOf ss ms xs fs)) ≡ take n xs
-unfolding kidsOf
+sizes-even : (n : ℕ) (ss ms xs : List Float) (fs : List Bool) → length ms ≡ length ss → length xs ≡ length ss → length fs ≡ length ss → map (λ (k : Kid). k .size) (take n (kidsShown ss ms xs fs)) ≡ take n xs
+unfolding kidsShown
 sizes-even zero ss ms xs fs p q r = refl
 sizes-even (suc n) [] ms [] fs p q r = refl
 sizes-even (suc n) [] ms (x ∷ xs) fs p q r = absurd (omega arith)
@@ -47,17 +47,17 @@ sizes-even (suc n) (s ∷ ss) (m ∷ ms) (x ∷ xs) [] p q r = absurd (omega ari
 sizes-even (suc n) (s ∷ ss) (m ∷ ms) (x ∷ xs) (f ∷ fs) p q r = ap (λ (l : List Float). x ∷ l) (sizes-even n ss ms xs fs (omega arith) (omega arith) (omega arith))
 
 module _ (ss ms xs : List Float) (fs : List Bool) (l : Long ss ms xs fs) where
-  pub kids-long : length (kidsOf ss ms xs fs) ≡ 16
+  pub kids-long : length (kidsShown ss ms xs fs) ≡ 16
   kids-long = kids-even ss ms xs fs (l .minima ∙ sym (l .shares)) (l .sizes ∙ sym (l .shares)) (l .fixed ∙ sym (l .shares)) ∙ l .shares
 
-  kids-at : (i : ℕ) → i < 16 → getD (kidsOf ss ms xs fs) i kid0 ≡ kid (getD ss i nan) (getD ms i nan) (getD xs i nan) (getD fs i false)
+  kids-at : (i : ℕ) → i < 16 → getD (kidsShown ss ms xs fs) i kid0 ≡ kid (getD ss i nan) (getD ms i nan) (getD xs i nan) (getD fs i false)
   kids-at i h = kids-even-at ss ms xs fs (l .minima ∙ sym (l .shares)) (l .sizes ∙ sym (l .shares)) (l .fixed ∙ sym (l .shares)) i (omega (arith, l .shares))
 
-  pub sizes-taken : (n : ℕ) → map (λ (k : Kid). k .size) (take n (kidsOf ss ms xs fs)) ≡ take n xs
+  pub sizes-taken : (n : ℕ) → map (λ (k : Kid). k .size) (take n (kidsShown ss ms xs fs)) ≡ take n xs
   sizes-taken n = sizes-even n ss ms xs fs (l .minima ∙ sym (l .shares)) (l .sizes ∙ sym (l .shares)) (l .fixed ∙ sym (l .shares))
 
-kids-set : (ss ms xs : List Float) (fs : List Bool) (i : ℕ) (x : Float) (f : Bool) → kidsOf ss ms (set xs i x) (set fs i f) ≡ set (kidsOf ss ms xs fs) i (kid (getD ss i nan) (getD ms i nan) x f)
-unfolding kidsOf
+kids-set : (ss ms xs : List Float) (fs : List Bool) (i : ℕ) (x : Float) (f : Bool) → kidsShown ss ms (set xs i x) (set fs i f) ≡ set (kidsShown ss ms xs fs) i (kid (getD ss i nan) (getD ms i nan) x f)
+unfolding kidsShown
 kids-set [] ms xs fs i x f = refl
 kids-set (s ∷ ss) [] xs fs i x f = refl
 kids-set (s ∷ ss) (m ∷ ms) [] fs i x f = refl
@@ -67,8 +67,8 @@ kids-set (s ∷ ss) (m ∷ ms) (x₀ ∷ xs) (f₀ ∷ fs) zero x f = refl
 kids-set (s ∷ ss) (m ∷ ms) (x₀ ∷ xs) (f₀ ∷ fs) (suc i) x f = ap (λ (l : List Kid). kid s m x₀ f₀ ∷ l) (kids-set ss ms xs fs i x f)
 
 -- ---- the children that the outer loop begins with
-take-kids : (n : ℕ) (ss ms xs : List Float) (fs : List Bool) → take n (kidsOf ss ms xs fs) ≡ kidsOf (take n ss) (take n ms) (take n xs) (take n fs)
-unfolding kidsOf
+take-kids : (n : ℕ) (ss ms xs : List Float) (fs : List Bool) → take n (kidsShown ss ms xs fs) ≡ kidsShown (take n ss) (take n ms) (take n xs) (take n fs)
+unfolding kidsShown
 take-kids zero ss ms xs fs = refl
 take-kids (suc n) [] ms xs fs = refl
 take-kids (suc n) (s ∷ ss) [] xs fs = refl
@@ -76,17 +76,17 @@ take-kids (suc n) (s ∷ ss) (m ∷ ms) [] fs = refl
 take-kids (suc n) (s ∷ ss) (m ∷ ms) (x ∷ xs) [] = refl
 take-kids (suc n) (s ∷ ss) (m ∷ ms) (x ∷ xs) (f ∷ fs) = ap (λ (l : List Kid). kid s m x f ∷ l) (take-kids n ss ms xs fs)
 
-kids-start : (t w : Float) (ss ms : List Float) → kidsOf ss ms (map (λ (s : Float). part t s w) ss) (replicate (length ss) false) ≡ start t w ss ms
-unfolding kidsOf start
+kids-start : (t w : Float) (ss ms : List Float) → kidsShown ss ms (map (λ (s : Float). part t s w) ss) (replicate (length ss) false) ≡ start t w ss ms
+unfolding kidsShown start
 kids-start t w [] ms = refl
 kids-start t w (s ∷ ss) [] = refl
 kids-start t w (s ∷ ss) (m ∷ ms) = ap (λ (l : List Kid). kid s m (part t s w) false ∷ l) (kids-start t w ss ms)
 
-pub start-shown : (t w : Float) (ss ms xs : List Float) (n : ℕ) → length ss ≡ 16 → n ≤ 16 → take n xs ≡ map (λ (s : Float). part t s w) (take n ss) → take n (kidsOf ss ms xs unfixed) ≡ start t w (take n ss) (take n ms)
+pub start-shown : (t w : Float) (ss ms xs : List Float) (n : ℕ) → length ss ≡ 16 → n ≤ 16 → take n xs ≡ map (λ (s : Float). part t s w) (take n ss) → take n (kidsShown ss ms xs unfixed) ≡ start t w (take n ss) (take n ms)
 start-shown t w ss ms xs n l h e =
     let k : length (take n ss) ≡ n = length-take-le n ss (omega (arith, l)) in
     take-kids n ss ms xs unfixed
-    ∙ (λ j. kidsOf (take n ss) (take n ms) (e j) ((take-replicate n 16 false h ∙ ap (λ (m : ℕ). replicate m false) (sym k)) j))
+    ∙ (λ j. kidsShown (take n ss) (take n ms) (e j) ((take-replicate n 16 false h ∙ ap (λ (m : ℕ). replicate m false) (sym k)) j))
     ∙ kids-start t w (take n ss) (take n ms)
 
 -- ---- what is left of a list from i on
@@ -103,7 +103,7 @@ pub record Working (g : Kid → Kid) (ss ms xs₀ : List Float) (fs₀ : List Bo
   pub long : Long ss ms xs fs
   pub sizes-rest : drop i xs ≡ drop i xs₀
   pub fixed-rest : drop i fs ≡ drop i fs₀
-  pub done : take i (kidsOf ss ms xs fs) ≡ map g (take i (kidsOf ss ms xs₀ fs₀))
+  pub done : take i (kidsShown ss ms xs fs) ≡ map g (take i (kidsShown ss ms xs₀ fs₀))
 
 module _ (g : Kid → Kid) (ss ms xs₀ : List Float) (fs₀ : List Bool) (l₀ : Long ss ms xs₀ fs₀) where
   pub working-start : Working g ss ms xs₀ fs₀ xs₀ fs₀ 0
@@ -111,7 +111,7 @@ module _ (g : Kid → Kid) (ss ms xs₀ : List Float) (fs₀ : List Bool) (l₀ 
 
   module _ (xs : List Float) (fs : List Bool) (i : ℕ) (w : Working g ss ms xs₀ fs₀ xs fs i) where
     -- the child that the code reads is the one that the loop began with
-    pub working-read : i < 16 → getD (kidsOf ss ms xs₀ fs₀) i kid0 ≡ kid (getD ss i nan) (getD ms i nan) (getD xs i nan) (getD fs i false)
+    pub working-read : i < 16 → getD (kidsShown ss ms xs₀ fs₀) i kid0 ≡ kid (getD ss i nan) (getD ms i nan) (getD xs i nan) (getD fs i false)
     working-read h =
         kids-at ss ms xs₀ fs₀ l₀ i h
         ∙ (λ j. kid (getD ss i nan) (getD ms i nan) (sym (rest-read xs xs₀ i nan (w .sizes-rest)) j) (sym (rest-read fs fs₀ i false (w .fixed-rest)) j))
@@ -119,25 +119,25 @@ module _ (g : Kid → Kid) (ss ms xs₀ : List Float) (fs₀ : List Bool) (l₀ 
     pub working-step : i < 16 → (x : Float) (f : Bool) → kid (getD ss i nan) (getD ms i nan) x f ≡ g (kid (getD ss i nan) (getD ms i nan) (getD xs i nan) (getD fs i false))
         → Working g ss ms xs₀ fs₀ (set xs i x) (set fs i f) (i + 1)
     working-step h x f e =
-        let k : i < length (kidsOf ss ms xs fs) = omega (arith, kids-long ss ms xs fs (w .long)) in
-        let k₀ : i < length (kidsOf ss ms xs₀ fs₀) = omega (arith, kids-long ss ms xs₀ fs₀ l₀) in
-        let v : kid (getD ss i nan) (getD ms i nan) x f ≡ g (getD (kidsOf ss ms xs₀ fs₀) i kid0) = e ∙ ap g (sym (working-read h)) in
+        let k : i < length (kidsShown ss ms xs fs) = omega (arith, kids-long ss ms xs fs (w .long)) in
+        let k₀ : i < length (kidsShown ss ms xs₀ fs₀) = omega (arith, kids-long ss ms xs₀ fs₀ l₀) in
+        let v : kid (getD ss i nan) (getD ms i nan) x f ≡ g (getD (kidsShown ss ms xs₀ fs₀) i kid0) = e ∙ ap g (sym (working-read h)) in
         record {
           long = record { shares = w .long .shares; minima = w .long .minima; sizes = length-set xs i x ∙ w .long .sizes; fixed = length-set fs i f ∙ w .long .fixed };
           sizes-rest = rest-set xs xs₀ i x (w .sizes-rest);
           fixed-rest = rest-set fs fs₀ i f (w .fixed-rest);
           done =
               (λ j. take (add-one i j) (kids-set ss ms xs fs i x f j))
-              ∙ take-suc-set (kidsOf ss ms xs fs) i (kid (getD ss i nan) (getD ms i nan) x f) k
+              ∙ take-suc-set (kidsShown ss ms xs fs) i (kid (getD ss i nan) (getD ms i nan) x f) k
               ∙ (λ j. w .done j ++ (v j ∷ []))
-              ∙ sym (map-more g (kidsOf ss ms xs₀ fs₀) i kid0 k₀);
+              ∙ sym (map-more g (kidsShown ss ms xs₀ fs₀) i kid0 k₀);
         }
 
     pub working-end : (n : ℕ) → n ≤ i → i ≤ n → Worked g n ss ms xs₀ fs₀ xs fs
     working-end n h k =
         let e : i ≡ n = omega arith in
         record {
-          kids = subst (λ (j : ℕ). take j (kidsOf ss ms xs fs) ≡ map g (take j (kidsOf ss ms xs₀ fs₀))) e (w .done);
+          kids = subst (λ (j : ℕ). take j (kidsShown ss ms xs fs) ≡ map g (take j (kidsShown ss ms xs₀ fs₀))) e (w .done);
           sizes-past = subst (λ (j : ℕ). drop j xs ≡ drop j xs₀) e (w .sizes-rest);
           fixed-past = subst (λ (j : ℕ). drop j fs ≡ drop j fs₀) e (w .fixed-rest);
           long = w .long;
@@ -160,13 +160,13 @@ sum-map on val g a (k ∷ ks) = sum-map on val g (cond (on (g k)) (add binary64 
 pub record Holding (ss ms xs₀ : List Float) (fs₀ : List Bool) (n : ℕ) (xs : List Float) (fs : List Bool) (changed : Bool) (held rest : Float) (i : ℕ) : Type 0 where
   pub few : i ≤ n
   pub work : Working pin ss ms xs₀ fs₀ xs fs i
-  pub any : cond changed true (anyShort (drop i (take n (kidsOf ss ms xs₀ fs₀)))) ≡ anyShort (take n (kidsOf ss ms xs₀ fs₀))
-  pub sum : Summed (λ (k : Kid). pin k .fixed) (λ (k : Kid). pin k .size) zero-f (kidsOf ss ms xs₀ fs₀) n i held
-  pub left : Summed (λ (k : Kid). flexible (pin k)) (λ (k : Kid). pin k .share) zero-f (kidsOf ss ms xs₀ fs₀) n i rest
+  pub any : cond changed true (anyShort (drop i (take n (kidsShown ss ms xs₀ fs₀)))) ≡ anyShort (take n (kidsShown ss ms xs₀ fs₀))
+  pub sum : Summed (λ (k : Kid). pin k .fixed) (λ (k : Kid). pin k .size) zero-f (kidsShown ss ms xs₀ fs₀) n i held
+  pub left : Summed (λ (k : Kid). flexible (pin k)) (λ (k : Kid). pin k .share) zero-f (kidsShown ss ms xs₀ fs₀) n i rest
 
 module _ (ss ms xs₀ : List Float) (fs₀ : List Bool) (n : ℕ) (l₀ : Long ss ms xs₀ fs₀) (few : n ≤ 16) where
   abbrev ks : List Kid
-  ks = kidsOf ss ms xs₀ fs₀
+  ks = kidsShown ss ms xs₀ fs₀
 
   pub holding-start : Holding ss ms xs₀ fs₀ n xs₀ fs₀ false zero-f zero-f 0
   holding-start = record { few = omega arith; work = working-start pin ss ms xs₀ fs₀ l₀; any = refl; sum = refl; left = refl }

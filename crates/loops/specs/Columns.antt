@@ -14,12 +14,12 @@ abbrev pub kid : Float → Float → Float → Bool → Kid
 kid s m x f = record { share = s; minimum = m; size = x; fixed = f }
 
 -- shares, minima, lengths so far, and whether each is fixed
-unfoldable pub kidsOf : List Float → List Float → List Float → List Bool → List Kid
-kidsOf [] ms xs fs = []
-kidsOf (s ∷ ss) [] xs fs = []
-kidsOf (s ∷ ss) (m ∷ ms) [] fs = []
-kidsOf (s ∷ ss) (m ∷ ms) (x ∷ xs) [] = []
-kidsOf (s ∷ ss) (m ∷ ms) (x ∷ xs) (f ∷ fs) = kid s m x f ∷ kidsOf ss ms xs fs
+unfoldable pub kidsShown : List Float → List Float → List Float → List Bool → List Kid
+kidsShown [] ms xs fs = []
+kidsShown (s ∷ ss) [] xs fs = []
+kidsShown (s ∷ ss) (m ∷ ms) [] fs = []
+kidsShown (s ∷ ss) (m ∷ ms) (x ∷ xs) [] = []
+kidsShown (s ∷ ss) (m ∷ ms) (x ∷ xs) (f ∷ fs) = kid s m x f ∷ kidsShown ss ms xs fs
 
 -- none is fixed yet
 abbrev pub unfixed : List Bool
@@ -33,7 +33,7 @@ pub record Long (ss ms xs : List Float) (fs : List Bool) : Type 0 where
 
 -- the first n children are changed by g, and nothing past them
 pub record Worked (g : Kid → Kid) (n : ℕ) (ss ms xs : List Float) (fs : List Bool) (xs′ : List Float) (fs′ : List Bool) : Type 0 where
-  pub kids : take n (kidsOf ss ms xs′ fs′) ≡ map g (take n (kidsOf ss ms xs fs))
+  pub kids : take n (kidsShown ss ms xs′ fs′) ≡ map g (take n (kidsShown ss ms xs fs))
   pub sizes-past : drop n xs′ ≡ drop n xs
   pub fixed-past : drop n fs′ ≡ drop n fs
   pub long : Long ss ms xs′ fs′

@@ -4,7 +4,7 @@ ghost use mathlib.Core.Path.{_≡_};
 ghost use Prim.Native.Nat.{_≤_};
 ghost use lib.ListN.{take};
 ghost use Rattle.rules.specs.Solver as Rules;
-ghost use Rattle.loops.specs.Columns.{kidsOf, Long, Worked, Tallied, Turned};
+ghost use Rattle.loops.specs.Columns.{kidsShown, Long, Worked, Tallied, Turned};
 
 // The locals of the Rust's outer loop: `changed`, `fixed_total` and `flexible_share_total`.
 pub struct Held {
@@ -72,7 +72,7 @@ pub fn hold_all(
     n: usize,
 ) -> Held
     requires { ⌜ (n ≤ 16) × Long (now shares) (now minima) (now sizes) (now fixed) ⌝ }
-    ensures { λ r. ⌜ Worked Rules.pin n (now (shares .entry)) (now (minima .entry)) (now (sizes .entry)) (now (fixed .entry)) (now (sizes .exit)) (now (fixed .exit)) × Tallied (take n (kidsOf (now (shares .entry)) (now (minima .entry)) (now (sizes .entry)) (now (fixed .entry)))) r ⌝ }
+    ensures { λ r. ⌜ Worked Rules.pin n (now (shares .entry)) (now (minima .entry)) (now (sizes .entry)) (now (fixed .entry)) (now (sizes .exit)) (now (fixed .exit)) × Tallied (take n (kidsShown (now (shares .entry)) (now (minima .entry)) (now (sizes .entry)) (now (fixed .entry)))) r ⌝ }
 {
     let mut changed = false;
     let mut held = 0.0;

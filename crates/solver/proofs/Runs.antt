@@ -13,7 +13,7 @@ use Rattle.rules.specs.Solver.{pin, spread, anyShort, fixedTotal, flexibleShare
 use Rattle.rules.specs.declared.solving.Kid.{Kid}
 use Rattle.solver.specs.Loop.{allFixed, run-once, next-begins}
 use Rattle.solver.specs.Lent.{Ran}
-use Rattle.loops.specs.Columns.{kidsOf, unfixed, Long, Worked, Tallied}
+use Rattle.loops.specs.Columns.{kidsShown, unfixed, Long, Worked, Tallied}
 use Rattle.loops.specs.declared.kids.Held.{Held}
 use Rattle.loops.proofs.Branches.{not-true, not-false}
 use Rattle.loops.proofs.Work.{sizes-taken}
@@ -75,17 +75,17 @@ pub record Running (total : Float) (n : ℕ) (ss ms xs₀ xs : List Float) (fs :
   pub few : p + left ≤ 32
   pub long : Long ss ms xs fs
   pub past : drop n xs ≡ drop n xs₀
-  pub rest : Left total (run n total 0 (take n (kidsOf ss ms xs₀ unfixed))) left p (take n (kidsOf ss ms xs fs))
+  pub rest : Left total (run n total 0 (take n (kidsShown ss ms xs₀ unfixed))) left p (take n (kidsShown ss ms xs fs))
 
 module _ (total : Float) (n : ℕ) (ss ms xs₀ : List Float) where
   abbrev whole : Run
-  whole = run n total 0 (take n (kidsOf ss ms xs₀ unfixed))
+  whole = run n total 0 (take n (kidsShown ss ms xs₀ unfixed))
 
-  pub running-start : n ≤ 16 → Long ss ms xs₀ unfixed → allFixed (take n (kidsOf ss ms xs₀ unfixed)) ≡ false → Running total n ss ms xs₀ xs₀ unfixed 0 n
+  pub running-start : n ≤ 16 → Long ss ms xs₀ unfixed → allFixed (take n (kidsShown ss ms xs₀ unfixed)) ≡ false → Running total n ss ms xs₀ xs₀ unfixed 0 n
   running-start h l e = record { few = omega arith; long = l; past = refl; rest = record { begins = e; so-far = refl } }
 
   -- the loop's children shown as lengths
-  ended : (xs : List Float) (fs : List Bool) (p : ℕ) → Long ss ms xs fs → drop n xs ≡ drop n xs₀ → ran (take n (kidsOf ss ms xs fs)) p ≡ whole → Ran total n ss ms xs₀ xs p
+  ended : (xs : List Float) (fs : List Bool) (p : ℕ) → Long ss ms xs fs → drop n xs ≡ drop n xs₀ → ran (take n (kidsShown ss ms xs fs)) p ≡ whole → Ran total n ss ms xs₀ xs p
   ended xs fs p l d e = record {
     lengths = (λ i. record { lengths = sym (sizes-taken ss ms xs fs l n) i; passes = p }) ∙ ap sized e;
     past = d;
@@ -94,18 +94,18 @@ module _ (total : Float) (n : ℕ) (ss ms xs₀ : List Float) where
 
   module _ (xs : List Float) (fs : List Bool) (p left : ℕ) (w : Running total n ss ms xs₀ xs fs p left) where
     pub ended-out : left ≤ 0 → Ran total n ss ms xs₀ xs p
-    ended-out h = ended xs fs p (w .long) (w .past) (run-out total whole left p (take n (kidsOf ss ms xs fs)) (omega arith) (w .rest))
+    ended-out h = ended xs fs p (w .long) (w .past) (run-out total whole left p (take n (kidsShown ss ms xs fs)) (omega arith) (w .rest))
 
-    module _ (some : 0 < left) (xs₁ : List Float) (fs₁ : List Bool) (t : Held) (d : Worked pin n ss ms xs fs xs₁ fs₁) (y : Tallied (take n (kidsOf ss ms xs fs)) t) where
+    module _ (some : 0 < left) (xs₁ : List Float) (fs₁ : List Bool) (t : Held) (d : Worked pin n ss ms xs fs xs₁ fs₁) (y : Tallied (take n (kidsShown ss ms xs fs)) t) where
       pub ended-none : not (t .changed) ≡ true → Ran total n ss ms xs₀ xs₁ (p + 1)
       ended-none e =
           ended xs₁ fs₁ (p + 1) (d .long) (d .sizes-past ∙ w .past)
-          (stop-none left total p (take n (kidsOf ss ms xs fs)) (take n (kidsOf ss ms xs₁ fs₁)) whole some (w .rest) (t .changed) (y .changed) (d .kids) e)
+          (stop-none left total p (take n (kidsShown ss ms xs fs)) (take n (kidsShown ss ms xs₁ fs₁)) whole some (w .rest) (t .changed) (y .changed) (d .kids) e)
 
       pub ended-flex : le (t .flexible) zero-f ≡ true → Ran total n ss ms xs₀ xs₁ (p + 1)
       ended-flex e =
           ended xs₁ fs₁ (p + 1) (d .long) (d .sizes-past ∙ w .past)
-          (stop-flex left total p (take n (kidsOf ss ms xs fs)) (take n (kidsOf ss ms xs₁ fs₁)) whole some (w .rest) (t .changed) (y .changed) (d .kids) (t .flexible) (y .flexible) e)
+          (stop-flex left total p (take n (kidsShown ss ms xs fs)) (take n (kidsShown ss ms xs₁ fs₁)) whole some (w .rest) (t .changed) (y .changed) (d .kids) (t .flexible) (y .flexible) e)
 
       pub running-on : not (t .changed) ≡ false → le (t .flexible) zero-f ≡ false → (room : Float) → room ≡ larger (sub binary64 total (t .held)) zero-f
           → (xs₂ : List Float) → Worked (spread room (t .flexible)) n ss ms xs₁ fs₁ xs₂ fs₁ → Running total n ss ms xs₀ xs₂ fs₁ (p + 1) (left - 1)
@@ -113,5 +113,5 @@ module _ (total : Float) (n : ℕ) (ss ms xs₀ : List Float) where
         few = omega (arith, w .few);
         long = d₂ .long;
         past = d₂ .sizes-past ∙ d .sizes-past ∙ w .past;
-        rest = go-on left total p (take n (kidsOf ss ms xs fs)) (take n (kidsOf ss ms xs₁ fs₁)) whole some (w .rest) (t .changed) (y .changed) (d .kids) (t .flexible) (y .flexible) m e (t .held) room (take n (kidsOf ss ms xs₂ fs₁)) (y .held) r (d₂ .kids);
+        rest = go-on left total p (take n (kidsShown ss ms xs fs)) (take n (kidsShown ss ms xs₁ fs₁)) whole some (w .rest) (t .changed) (y .changed) (d .kids) (t .flexible) (y .flexible) m e (t .held) room (take n (kidsShown ss ms xs₂ fs₁)) (y .held) r (d₂ .kids);
       }

@@ -24,7 +24,7 @@ use Rattle.solver.specs.Demand.{solveSome}
 use Rattle.solver.specs.declared.Solved.{Solved}
 use Rattle.solver.specs.Call.{Clear, viewSolved, badInput}
 use Rattle.loops.specs.Padded.{Padded}
-use Rattle.loops.specs.Columns.{kidsOf, unfixed, Long}
+use Rattle.loops.specs.Columns.{kidsShown, unfixed, Long}
 use Rattle.loops.proofs.Branches.{not-true, not-false}
 use Rattle.loops.proofs.Work.{sizes-taken, start-shown}
 
@@ -105,10 +105,10 @@ module _ (total w : Float) (ss ms at : List Float) (n : ℕ) (some : 0 < n) (few
   pub begun-long : Long ss ms at unfixed
   begun-long = record { shares = ls; minima = lm; sizes = la; fixed = refl }
 
-  begun-shown : take n (kidsOf ss ms at unfixed) ≡ ks
+  begun-shown : take n (kidsShown ss ms at unfixed) ≡ ks
   begun-shown = start-shown total w ss ms at n ls few (pad .front) ∙ ap (λ (z : Float). start total z (take n ss) (take n ms)) is
 
-  pub begun-free : allFixed (take n (kidsOf ss ms at unfixed)) ≡ false
+  pub begun-free : allFixed (take n (kidsShown ss ms at unfixed)) ≡ false
   begun-free = ap allFixed begun-shown ∙ start-begins total (sumOf (take n ss)) (take n ss) (take n ms) (omega (arith, counted)) paired
 
   pub begun-at : Padded n (sizes ks) at

@@ -3,7 +3,7 @@ ghost use mathlib.Core.Path.{_≡_};
 ghost use Prim.Native.Nat.{_≤_};
 ghost use lib.ListN.{take};
 ghost use mathlib.Core.Bool.{false};
-ghost use Rattle.loops.specs.Columns.{kidsOf, unfixed, Long};
+ghost use Rattle.loops.specs.Columns.{kidsShown, unfixed, Long};
 ghost use Rattle.solver.specs.Lent.{Ran};
 ghost use Rattle.solver.specs.Loop.{allFixed};
 
@@ -16,7 +16,7 @@ pub fn run(
     sizes: &mut [f64; 16],
     n: usize,
 ) -> u64
-    requires { ⌜ (n ≤ 16) × Long (now shares) (now minima) (now sizes) unfixed × (allFixed (take n (kidsOf (now shares) (now minima) (now sizes) unfixed)) ≡ false) ⌝ }
+    requires { ⌜ (n ≤ 16) × Long (now shares) (now minima) (now sizes) unfixed × (allFixed (take n (kidsShown (now shares) (now minima) (now sizes) unfixed)) ≡ false) ⌝ }
     ensures { λ r. ⌜ Ran total n (now (shares .entry)) (now (minima .entry)) (now (sizes .entry)) (now (sizes .exit)) r ⌝ }
 {
     let mut fixed = [false; 16];
