@@ -91,6 +91,13 @@ unused-by : (b : Bool) (hs : List (List ℕ)) → anyOf overHead hs ≡ b → ma
 unused-by true hs e = unused-tidy hs
 unused-by false hs e = unused-none hs e
 
+-- by what a test of the lengths answered
+pub tidy-none : (hs : List (List ℕ)) (b : Bool) → b ≡ anyOf overHead hs → b ≡ false → hs ≡ tidyHeads hs
+tidy-none hs b e f = ap (λ (x : Bool). tidyBy x hs) (sym f ∙ e)
+
+pub tidy-some : (hs hs′ : List (List ℕ)) (b : Bool) → b ≡ anyOf overHead hs → b ≡ true → hs′ ≡ map tidied hs → hs′ ≡ tidyHeads hs
+tidy-some hs hs′ b e f m = m ∙ ap (λ (x : Bool). tidyBy x hs) (sym f ∙ e)
+
 module _ (hs hs′ xs : List (List ℕ)) (ss ms : List (List Float)) (e : hs′ ≡ tidyHeads hs) where
   pub tidy-lent : (top : List ℕ) → lent (lot top hs′ xs ss ms) ≡ lent (lot top hs xs ss ms)
   tidy-lent top =

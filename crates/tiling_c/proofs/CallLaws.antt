@@ -37,7 +37,7 @@ use Rattle.layout.specs.declared.LaidOut.{LaidOut}
 use Rattle.solver.specs.Call.{Clear}
 use Rattle.coding.specs.Lent.{Lot, lent, lotOk, opOk, opFrom, inputFrom}
 use Rattle.crossing.specs.Parts.{Tells, Holds, Keeps, Writes, Fills}
-use Rattle.tiling_c.specs.Calls.{Builds, Mends, Repairs, soundCode, Changes, Applies, LaysInto, Solves}
+use Rattle.tiling_c.specs.Calls.{Builds, Mends, Repairs, soundCode, Changes, Applies, Lays, LaysInto, Solves}
 
 -- ---- the number is 0 where it is accepted, and nowhere else
 
@@ -109,8 +109,8 @@ repairs-good l acts out a hs xs ss ms list d l′ acts′ out′ n g v C W T K =
 pub sound-bad : (c s : Bool) → c ≡ false → 5 ≡ soundCode c s
 sound-bad c s e = ap (λ (b : Bool). soundCode b s) (sym e)
 
-pub sound-is : (l : Lot) (a : Arena) (s : Bool) → lotOk l ≡ true → a ≡ lent l → s ≡ sound a → soundCode true s ≡ soundCode (lotOk l) (sound (lent l))
-sound-is l a s g v e = λ z. soundCode (sym g z) ((e ∙ ap sound v) z)
+pub sound-is : (l : Lot) (a : Arena) (r : ℕ) → lotOk l ≡ true → a ≡ lent l → r ≡ soundCode true (sound a) → r ≡ soundCode (lotOk l) (sound (lent l))
+sound-is l a r g v e = e ∙ (λ z. soundCode (sym g z) (sound (v z)))
 
 -- ---- apply
 
@@ -133,24 +133,27 @@ applies-good l w f out a op hs xs ss ms d l′ out′ n g v o C T K =
 
 -- ---- layout_into
 
+pub lays : (a : Arena) (i : LayoutInput) (cs : List (List ℕ)) (qs : List (List Float)) (cs′ : List (List ℕ)) (qs′ : List (List Float)) (d : LaidOut) (out′ : List ℕ) (n : ℕ)
+    → LaysOut a i cs qs cs′ qs′ d → Tells (d .answer) (d .len) (d .revision) out′ n → Lays a i cs qs cs′ qs′ out′ n
+lays a i cs qs cs′ qs′ d out′ n L T =
+    let w : d .answer ≡ layout a i .answer = ap (λ (x : Laid). x .answer) (L .right) in
+    let r : d .revision ≡ layout a i .revision = ap (λ (x : Laid). x .revision) (L .right) in
+    record {
+      len = d .len;
+      frame = subst (λ (x : LaidOut). LaysOut a i cs qs cs′ qs′ x) (λ z. record { answer = w z; revision = r z; len = d .len }) L;
+      told = subst (λ (x : ℕ). Tells (layout a i .answer) (d .len) x out′ n) r (subst (λ (x : Answer). Tells x (d .len) (d .revision) out′ n) w T);
+    }
+
 module _ (l : Lot) (q : List Float) (cs : List (List ℕ)) (qs : List (List Float)) (out : List ℕ) where
   pub lays-bad : lotOk l ≡ false → LaysInto l q cs qs out cs qs out 5
   lays-bad b = record { bad = λ e. (refl, refl, refl, refl); good = λ e. absurd (no-both (lotOk l) b e) }
 
-  pub lays-good : (a : Arena) (i : LayoutInput) (d : LaidOut) (cs′ : List (List ℕ)) (qs′ : List (List Float)) (out′ : List ℕ) (n : ℕ) → lotOk l ≡ true → a ≡ lent l → i ≡ inputFrom q
-      → LaysOut a i cs qs cs′ qs′ d → Tells (d .answer) (d .len) (d .revision) out′ n → LaysInto l q cs qs out cs′ qs′ out′ n
-  lays-good a i d cs′ qs′ out′ n g v o L T =
-      let same : layout a i ≡ layout (lent l) (inputFrom q) = λ z. layout (v z) (o z) in
-      let w : d .answer ≡ layout (lent l) (inputFrom q) .answer = ap (λ (x : Laid). x .answer) (L .right ∙ same) in
-      let r : d .revision ≡ layout (lent l) (inputFrom q) .revision = ap (λ (x : Laid). x .revision) (L .right ∙ same) in
+  pub lays-good : (a : Arena) (i : LayoutInput) (cs′ : List (List ℕ)) (qs′ : List (List Float)) (out′ : List ℕ) (n : ℕ) → lotOk l ≡ true → a ≡ lent l → i ≡ inputFrom q
+      → Lays a i cs qs cs′ qs′ out′ n → LaysInto l q cs qs out cs′ qs′ out′ n
+  lays-good a i cs′ qs′ out′ n g v o L =
       record {
         bad = λ e. absurd (no-both (lotOk l) e g);
-        good = λ e. record {
-          len = d .len;
-          frame = subst (λ (x : LaidOut). LaysOut (lent l) (inputFrom q) cs qs cs′ qs′ x) (λ z. record { answer = w z; revision = r z; len = d .len })
-              (subst (λ (x : LayoutInput). LaysOut (lent l) x cs qs cs′ qs′ d) o (subst (λ (x : Arena). LaysOut x i cs qs cs′ qs′ d) v L));
-          told = subst (λ (x : ℕ). Tells (layout (lent l) (inputFrom q) .answer) (d .len) x out′ n) r (subst (λ (x : Answer). Tells x (d .len) (d .revision) out′ n) w T);
-        };
+        good = λ e. subst (λ (x : LayoutInput). Lays (lent l) x cs qs cs′ qs′ out′ n) o (subst (λ (x : Arena). Lays x i cs qs cs′ qs′ out′ n) v L);
       }
 
 -- ---- solve

@@ -4,17 +4,22 @@
 // operation is refused with 5, and then nothing is written.
 use coding::codes;
 use coding::operation;
+use columns::unpack;
 use crossing::actions;
 use crossing::arena;
 use crossing::solving;
 use crossing::tidy;
 use crossing::told;
 use lending::back;
+use rules::frame::LayoutInput;
 ghost use mathlib.Core.Path.{_≡_};
+ghost use mathlib.Core.Bool.{true};
+ghost use Prim.Native.Nat.{ℕ};
 ghost use Rattle.rules.specs.Sound.{sound};
 ghost use Rattle.rules.specs.Solver.{solve};
+ghost use Rattle.columns.specs.Shown.{arenaFrom, Plain};
 ghost use Rattle.coding.specs.Lent.{lot, lent, codesOk, realsOf};
-ghost use Rattle.tiling_c.specs.Calls.{Builds, Repairs, soundCode, Applies, LaysInto, Solves};
+ghost use Rattle.tiling_c.specs.Calls.{Builds, Repairs, soundCode, Applies, Lays, LaysInto, Solves};
 
 // What a number that names nothing is answered with: document 01's 'bad input'.
 const BAD_INPUT: u64 = 5;
@@ -87,6 +92,23 @@ pub extern "C" fn tiling_repair(
     n
 }
 
+// Soundness of columns whose heads are fit to be read, as a number.
+fn sound_number(
+    root: u64,
+    heads: &[[u64; 8]; 64],
+    ids: &[[u64; 16]; 64],
+    shares: &[[f64; 16]; 64],
+    minima: &[[f64; 16]; 64],
+) -> u64
+    requires { ⌜ Plain (now heads) (now ids) (now shares) (now minima) ⌝ }
+    ensures { λ r. ⌜ ((v : ℕ) → r ≡ soundCode true (sound (arenaFrom root v (now (heads .entry)) (now (ids .entry)) (now (shares .entry)) (now (minima .entry))))) ⌝ }
+{
+    if repair::whole::sound_columns(root, heads, ids, shares, minima) {
+        return 0;
+    }
+    4
+}
+
 // 0 where the arena is sound, 4 where it is not.
 #[no_mangle]
 pub extern "C" fn tiling_is_sound(
@@ -102,12 +124,12 @@ pub extern "C" fn tiling_is_sound(
         return BAD_INPUT;
     }
     arena::sized(heads, ids, shares, minima);
-    let plain = tidy::tidy(heads);
     let words = *top;
-    if repair::whole::sound_columns(words[0], &plain, ids, shares, minima) {
-        return 0;
+    if unpack::heads_over(heads) {
+        let plain = tidy::tidy(heads);
+        return sound_number(words[0], &plain, ids, shares, minima);
     }
-    4
+    sound_number(words[0], heads, ids, shares, minima)
 }
 
 // One change. A refused one leaves the arena as it was.
@@ -158,6 +180,37 @@ pub extern "C" fn tiling_apply(
     n
 }
 
+// A layout of columns whose heads are fit to be read, and what is told of it.
+fn lay(
+    root: u64,
+    revision: u64,
+    given: LayoutInput,
+    heads: &[[u64; 8]; 64],
+    ids: &[[u64; 16]; 64],
+    shares: &[[f64; 16]; 64],
+    minima: &[[f64; 16]; 64],
+    items: &mut [[u64; 5]; 2304],
+    rects: &mut [[f64; 4]; 2304],
+    out: &mut [u64; 4],
+) -> u64
+    requires { ⌜ Plain (now heads) (now ids) (now shares) (now minima) ⌝ }
+    ensures { λ r. ⌜ Lays (arenaFrom root revision (now (heads .entry)) (now (ids .entry)) (now (shares .entry)) (now (minima .entry))) given (now (items .entry)) (now (rects .entry)) (now (items .exit)) (now (rects .exit)) (now (out .exit)) r ⌝ }
+{
+    let d = layout::whole::layout_columns(
+        root,
+        revision,
+        given,
+        heads,
+        ids,
+        shares,
+        minima,
+        items,
+        rects,
+    );
+    let answer = d.answer;
+    told::tell(answer, d.len as u64, d.revision, out)
+}
+
 // The frame of an arena as one stream: `out` has the number of its items. A refusal leaves the stream as it was.
 #[no_mangle]
 pub extern "C" fn tiling_layout_into(
@@ -177,22 +230,35 @@ pub extern "C" fn tiling_layout_into(
         return BAD_INPUT;
     }
     arena::sized(heads, ids, shares, minima);
-    let plain = tidy::tidy(heads);
     let words = *top;
     let given = operation::input_of(input);
-    let d = layout::whole::layout_columns(
+    if unpack::heads_over(heads) {
+        let plain = tidy::tidy(heads);
+        return lay(
+            words[0],
+            words[1],
+            given,
+            &plain,
+            ids,
+            shares,
+            minima,
+            items,
+            rects,
+            out,
+        );
+    }
+    lay(
         words[0],
         words[1],
         given,
-        &plain,
+        heads,
         ids,
         shares,
         minima,
         items,
         rects,
-    );
-    let answer = d.answer;
-    told::tell(answer, d.len as u64, d.revision, out)
+        out,
+    )
 }
 
 // The lengths of a split's children: `out` has their number and the passes. A refusal leaves the lengths as they were.
