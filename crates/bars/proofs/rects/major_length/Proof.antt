@@ -1,4 +1,4 @@
--- `util::rects::major_length` is the width or the height. Assumes nothing.
+-- `bars::rects::major_length` is the width or the height. Assumes nothing.
 use mathlib.Core.Path.{sym, ap, _∙_}
 use borrow.Author.Needs.{needs}
 use Rattle.rules.specs.Tabs.{majorLength}

@@ -1,4 +1,4 @@
--- `util::tabs::no_bar` is nothing and the whole. Assumes nothing.
+-- `bars::tabs::no_bar` is nothing and the whole. Assumes nothing.
 use mathlib.Core.Path.{refl}
 use lib.Ieee.{ofBits}
 use Rattle.bars.proofs.tabs.no_bar.Statement.{statement}

@@ -1,4 +1,4 @@
--- `util::tabs::split_tab_bar` cuts the thickness to the rectangle, then goes by the placement. Assumes nothing.
+-- `bars::tabs::split_tab_bar` cuts the thickness to the rectangle, then goes by the placement. Assumes nothing.
 use mathlib.Core.Path.{sym, ap, _∙_}
 use borrow.Author.Needs.{needs}
 use Rattle.rules.specs.Numbers.{smaller}

@@ -1,4 +1,4 @@
--- `util::tabs::tab_across` divides the bar evenly. Assumes nothing.
+-- `bars::tabs::tab_across` divides the bar evenly. Assumes nothing.
 use borrow.Author.Needs.{needs}
 use Rattle.rules.specs.Tabs.{rect, width}
 use Rattle.bars.specs.Bars.{tab-ends}

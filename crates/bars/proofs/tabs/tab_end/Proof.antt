@@ -1,4 +1,4 @@
--- `util::tabs::tab_end` is the bar's own end at the last tab. Assumes nothing.
+-- `bars::tabs::tab_end` is the bar's own end at the last tab. Assumes nothing.
 use mathlib.Core.Path.{sym, _∙_}
 use Prim.Native.Nat.{suc}
 use native.Mathlib.Numerals.{add-one}

@@ -1,4 +1,4 @@
--- `util::tabs::tab_rect` runs across or down by the placement. Assumes nothing.
+-- `bars::tabs::tab_rect` runs across or down by the placement. Assumes nothing.
 use mathlib.Core.Path.{sym, ap, _∙_}
 use borrow.Author.Needs.{needs}
 use Rattle.rules.specs.Tabs.{tabRect}

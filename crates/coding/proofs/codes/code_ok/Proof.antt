@@ -1,4 +1,4 @@
--- `tiling_c::codes::code_ok` goes by the kind. Assumes nothing.
+-- `coding::codes::code_ok` goes by the kind. Assumes nothing.
 use mathlib.Core.Path.{sym, ap}
 use Prim.Native.Nat.{ℕ}
 use native.Mathlib.Omega.{arith}

@@ -1,4 +1,4 @@
--- `tiling_c::codes::codes_ok` passes one head after another until one is no code. Assumes nothing.
+-- `coding::codes::codes_ok` passes one head after another until one is no code. Assumes nothing.
 use mathlib.Core.Path.{refl, ap, _∙_}
 use mathlib.Core.List.{[]}
 use Prim.Native.Nat.{_≤_, _-_}

@@ -1,4 +1,4 @@
--- `tiling_c::codes::op_ok` goes by what is asked. Assumes nothing.
+-- `coding::codes::op_ok` goes by what is asked. Assumes nothing.
 use mathlib.Core.Path.{sym, ap, _∙_}
 use Prim.Native.Nat.{ℕ}
 use lib.ListN.{getD}

@@ -1,4 +1,4 @@
--- `tiling_c::codes::sides_ok`: axis and placement are 0 or 1. Assumes nothing.
+-- `coding::codes::sides_ok`: axis and placement are 0 or 1. Assumes nothing.
 use native.Mathlib.Omega.{arith}
 use lib.Dec.{ltb}
 use lib.ListN.{getD}

@@ -1,4 +1,4 @@
--- `tiling_c::operation::index_of`: any number but 0 gives the index. Assumes nothing.
+-- `coding::operation::index_of`: any number but 0 gives the index. Assumes nothing.
 use Rattle.coding.proofs.ReadLaws.{index-other}
 use borrow.Author.Needs.{needs}
 use Rattle.coding.proofs.operation.index_of.Statement.{statement}

@@ -1,4 +1,4 @@
--- `tiling_c::operation::op_of` goes by what is asked. Assumes nothing.
+-- `coding::operation::op_of` goes by what is asked. Assumes nothing.
 use mathlib.Core.Path.{sym, ap, _∙_}
 use Prim.Native.Nat.{ℕ}
 use lib.ListN.{getD}

@@ -1,4 +1,4 @@
--- `tiling_c::operation::placement_of`: any number but 0 is after. Assumes nothing.
+-- `coding::operation::placement_of`: any number but 0 is after. Assumes nothing.
 use Rattle.coding.proofs.ReadLaws.{placement-other}
 use borrow.Author.Needs.{needs}
 use Rattle.coding.proofs.operation.placement_of.Statement.{statement}

@@ -1,4 +1,4 @@
--- `wire::same::by_kind`: by the first slot's kind. Assumes nothing.
+-- `compare::same::by_kind`: by the first slot's kind. Assumes nothing.
 use mathlib.Core.Path.{sym, ap, _∙_}
 use Rattle.rules.specs.declared.model.Kind.{Kind}
 use Rattle.compare.specs.Same.{slotTo}

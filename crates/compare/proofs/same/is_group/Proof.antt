@@ -1,4 +1,4 @@
--- `wire::same::is_group`: by the other slot's kind. Assumes nothing.
+-- `compare::same::is_group`: by the other slot's kind. Assumes nothing.
 use mathlib.Core.Bool.{_&&_}
 use mathlib.Core.Path.{sym, ap, _∙_}
 use Rattle.rules.specs.declared.model.Kind.{Kind}

@@ -1,4 +1,4 @@
--- `wire::same::is_pane` meets its contract. Assumes nothing.
+-- `compare::same::is_pane` meets its contract. Assumes nothing.
 use mathlib.Core.Path.{sym, ap}
 use Rattle.compare.specs.Same.{paneTo}
 use borrow.Author.Needs.{needs}

@@ -1,4 +1,4 @@
--- `wire::same::same_bar`: the same number in the table. Assumes nothing.
+-- `compare::same::same_bar`: the same number in the table. Assumes nothing.
 use lib.Dec.{eqb}
 use borrow.Author.Needs.{needs}
 use Rattle.compare.proofs.same.same_bar.Statement.{statement}

@@ -1,4 +1,4 @@
--- `wire::same::same_ids`: the lengths, then the entries before them. Assumes nothing.
+-- `compare::same::same_ids`: the lengths, then the entries before them. Assumes nothing.
 use lib.Dec.{eqb}
 use Rattle.compare.proofs.Taken.{like-lengths, other-lengths}
 use borrow.Author.Needs.{needs}

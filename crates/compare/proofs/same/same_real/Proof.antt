@@ -1,4 +1,4 @@
--- `wire::same::same_real`: a number that equals itself is no NaN, so that it has bits. Assumes nothing.
+-- `compare::same::same_real`: a number that equals itself is no NaN, so that it has bits. Assumes nothing.
 use Rattle.compare.proofs.Bits.{no-nan, two-numbers, number-and-nan, nan-first}
 use Rattle.compare.proofs.same.same_real.Statement.{statement}
 use Rattle.compare.proofs.same.same_real.Tie as tie

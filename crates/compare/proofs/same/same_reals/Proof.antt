@@ -1,4 +1,4 @@
--- `wire::same::same_reals`: the lengths, then the entries before them. Assumes nothing.
+-- `compare::same::same_reals`: the lengths, then the entries before them. Assumes nothing.
 use Rattle.compare.specs.Same.{sameBits}
 use Rattle.compare.proofs.Taken.{like-lengths, other-lengths}
 use borrow.Author.Needs.{needs}

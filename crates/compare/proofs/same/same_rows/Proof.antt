@@ -1,4 +1,4 @@
--- `wire::same::same_rows` meets its contract. Assumes nothing.
+-- `compare::same::same_rows` meets its contract. Assumes nothing.
 use mathlib.Core.Bool.{_&&_}
 use mathlib.Core.Path.{_∙_}
 use borrow.Author.Needs.{needs}

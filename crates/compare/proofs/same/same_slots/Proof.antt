@@ -1,4 +1,4 @@
--- `wire::same::same_slots`: the loop says what is left to compare. Assumes nothing.
+-- `compare::same::same_slots`: the loop says what is left to compare. Assumes nothing.
 use Prim.Native.Nat.{_≤_, _-_}
 use mathlib.Core.Path.{_≡_}
 use mathlib.Core.List.{[]}

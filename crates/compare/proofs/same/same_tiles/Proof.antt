@@ -1,4 +1,4 @@
--- `wire::same::same_tiles`: the lengths, then the entries before them. Assumes nothing.
+-- `compare::same::same_tiles`: the lengths, then the entries before them. Assumes nothing.
 use Rattle.rules.specs.Tree.{sameTile}
 use Rattle.compare.proofs.Taken.{like-lengths, other-lengths}
 use borrow.Author.Needs.{needs}

@@ -1,4 +1,4 @@
--- `tiling_c::solving::keep` writes where the number is 0, and else leaves all as it was. Assumes nothing.
+-- `crossing::solving::keep` writes where the number is 0, and else leaves all as it was. Assumes nothing.
 use mathlib.Core.Path.{refl}
 use borrow.Author.Needs.{needs}
 use Rattle.crossing.proofs.solving.keep.Statement.{statement}

@@ -1,4 +1,4 @@
--- `tiling_c::tidy::tidy_head` goes by the kind. Assumes nothing.
+-- `crossing::tidy::tidy_head` goes by the kind. Assumes nothing.
 use mathlib.Core.Path.{sym, ap}
 use Prim.Native.Nat.{ℕ}
 use lib.ListN.{getD}

@@ -1,4 +1,4 @@
--- `tiling_c::told::tell` writes what the answer is called. Assumes nothing.
+-- `crossing::told::tell` writes what the answer is called. Assumes nothing.
 use mathlib.Core.Path.{ap}
 use Rattle.rules.specs.Refusals.{Told}
 use Rattle.coding.specs.Lent.{outOf}

@@ -1,4 +1,4 @@
--- `ops::near::put_apart` goes by whether the target is the root, and by what holds it. Assumes nothing.
+-- `docking::near::put_apart` goes by whether the target is the root, and by what holds it. Assumes nothing.
 use mathlib.Core.Path.{ap}
 use Rattle.rules.specs.Tree.{viewSlot}
 use Rattle.columns.specs.Columns.{nodesFrom}

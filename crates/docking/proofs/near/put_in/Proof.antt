@@ -1,4 +1,4 @@
--- `ops::near::put_in` refuses for want of room or of places, or makes the tile and puts it into the split. Assumes nothing.
+-- `docking::near::put_in` refuses for want of room or of places, or makes the tile and puts it into the split. Assumes nothing.
 use Rattle.rules.specs.Tree.{viewSlot}
 use Rattle.columns.specs.Columns.{nodesFrom}
 use Rattle.docking.proofs.NearLaws.{split-bounds, put-in-full, put-in-place, put-in-wide, put-in-goes}

@@ -1,4 +1,4 @@
--- `ops::near::put_near` goes by the target, by what holds it, and by the axis. Assumes nothing.
+-- `docking::near::put_near` goes by the target, by what holds it, and by the axis. Assumes nothing.
 use mathlib.Core.Path.{sym, ap, _∙_}
 use borrow.Author.Tests.{not-true, not-false}
 use Rattle.rules.specs.Tree.{viewSlot, isEmpty}

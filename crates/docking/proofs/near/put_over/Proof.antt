@@ -1,4 +1,4 @@
--- `ops::near::put_over` refuses for want of room, or makes the tile and a split over it and the root. Assumes nothing.
+-- `docking::near::put_over` refuses for want of room, or makes the tile and a split over it and the root. Assumes nothing.
 use Rattle.rules.specs.Tree.{viewSlot}
 use Rattle.columns.specs.Columns.{nodesFrom}
 use Rattle.docking.proofs.NearLaws.{put-over-full, put-over-goes}

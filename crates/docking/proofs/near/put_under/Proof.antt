@@ -1,4 +1,4 @@
--- `ops::near::put_under` refuses for want of room, or makes the tile and a split of the two, and puts that into the parent. Assumes nothing.
+-- `docking::near::put_under` refuses for want of room, or makes the tile and a split of the two, and puts that into the parent. Assumes nothing.
 use Rattle.rules.specs.Tree.{viewSlot}
 use Rattle.columns.specs.Columns.{nodesFrom}
 use Rattle.docking.proofs.NearLaws.{split-bounds, put-under-full, put-under-place, put-under-goes}

@@ -1,4 +1,4 @@
--- `ops::near::same_axis_parent` reads the parent. Assumes nothing.
+-- `docking::near::same_axis_parent` reads the parent. Assumes nothing.
 use mathlib.Core.Path.{sym, ap, _∙_}
 use Rattle.rules.specs.Insert.{hasAxis, sameAxisParent}
 use Rattle.columns.specs.Columns.{nodesFrom}

@@ -1,4 +1,4 @@
--- `frame::decode::child_of`: a row and its rectangle. Assumes nothing.
+-- `items::decode::child_of`: a row and its rectangle. Assumes nothing.
 use lib.ListN.{getD}
 use Rattle.rules.specs.Tree.{tile}
 use borrow.Author.Needs.{needs}

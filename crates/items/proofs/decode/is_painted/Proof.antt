@@ -1,4 +1,4 @@
--- `frame::decode::is_painted`: any kind but two. Assumes nothing.
+-- `items::decode::is_painted`: any kind but two. Assumes nothing.
 use Rattle.items.proofs.Laws.{painted-other}
 use borrow.Author.Needs.{needs}
 use Rattle.items.proofs.decode.is_painted.Statement.{statement}

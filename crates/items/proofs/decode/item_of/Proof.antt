@@ -1,4 +1,4 @@
--- `frame::decode::item_of`, by the kind. Assumes nothing.
+-- `items::decode::item_of`, by the kind. Assumes nothing.
 use mathlib.Core.Path.{sym, ap}
 use Prim.Native.Nat.{ℕ}
 use lib.ListN.{getD}

@@ -1,4 +1,4 @@
--- `frame::decode::tab_of`: a row and its rectangle. Assumes nothing.
+-- `items::decode::tab_of`: a row and its rectangle. Assumes nothing.
 use lib.ListN.{getD}
 use Rattle.rules.specs.Tree.{tile}
 use Rattle.items.proofs.Laws.{flag-is}

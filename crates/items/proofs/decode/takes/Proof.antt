@@ -1,4 +1,4 @@
--- `frame::decode::takes`: both tests. Assumes nothing.
+-- `items::decode::takes`: both tests. Assumes nothing.
 use Rattle.placing.proofs.PlaceLaws.{and-on}
 use borrow.Author.Needs.{needs}
 use Rattle.items.proofs.decode.takes.Statement.{statement}

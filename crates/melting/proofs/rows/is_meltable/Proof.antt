@@ -1,4 +1,4 @@
--- `normalize::rows::is_meltable`, by cases. Assumes nothing.
+-- `melting::rows::is_meltable`, by cases. Assumes nothing.
 use mathlib.Core.Path.{sym, _∙_}
 use borrow.Author.Tests.{not-true, not-false}
 use lib.Ieee.{ofBits}

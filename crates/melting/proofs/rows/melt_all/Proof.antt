@@ -1,4 +1,4 @@
--- `normalize::rows::melt_all` pushes each child of the split that is melted in. Assumes nothing.
+-- `melting::rows::melt_all` pushes each child of the split that is melted in. Assumes nothing.
 use mathlib.Core.Path.{sym, _∙_}
 use Prim.Native.Nat.{_-_}
 use native.Mathlib.Omega.{arith}

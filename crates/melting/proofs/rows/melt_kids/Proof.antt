@@ -1,4 +1,4 @@
--- `normalize::rows::melt_kids` mends the lists, and melts them in where there is room. Assumes nothing.
+-- `melting::rows::melt_kids` mends the lists, and melts them in where there is room. Assumes nothing.
 use Rattle.melting.specs.Splits.{Long}
 use Rattle.melting.proofs.SplitLaws.{melt-over, melt-fits}
 use borrow.Author.Needs.{needs}

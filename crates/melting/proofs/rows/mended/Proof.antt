@@ -1,4 +1,4 @@
--- `normalize::rows::mended` hands its lists to util's functions. Assumes nothing.
+-- `melting::rows::mended` hands its lists to util's functions. Assumes nothing.
 use mathlib.Core.Path.{refl}
 use native.Mathlib.Omega.{arith}
 use Rattle.melting.specs.Splits.{Long}

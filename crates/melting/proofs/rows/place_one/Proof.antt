@@ -1,4 +1,4 @@
--- `normalize::rows::place_one` pushes a child where there is room. Assumes nothing.
+-- `melting::rows::place_one` pushes a child where there is room. Assumes nothing.
 use mathlib.Core.List.{[], _∷_}
 use native.Mathlib.Omega.{arith}
 use Rattle.rules.specs.Tree.{tile}

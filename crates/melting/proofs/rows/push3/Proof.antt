@@ -1,4 +1,4 @@
--- `normalize::rows::push3` is one entry more in each list. Assumes nothing.
+-- `melting::rows::push3` is one entry more in each list. Assumes nothing.
 use mathlib.Core.Path.{refl}
 use Rattle.melting.specs.Splits.{Long}
 use Rattle.melting.proofs.SplitLaws.{grown-one}

@@ -1,4 +1,4 @@
--- `normalize::rows::same_axis`, by cases. Assumes nothing.
+-- `melting::rows::same_axis`, by cases. Assumes nothing.
 use Rattle.melting.proofs.SplitLaws.{axis-zero, axis-other}
 use Rattle.melting.proofs.rows.same_axis.Statement.{statement}
 use Rattle.melting.proofs.rows.same_axis.Tie as tie

@@ -1,4 +1,4 @@
--- `columns::actions::is_listed` passes one action after another until one is the same. Assumes nothing.
+-- `noting::actions::is_listed` passes one action after another until one is the same. Assumes nothing.
 use mathlib.Core.List.{[]}
 use mathlib.Core.Path.{refl, sym, _∙_}
 use Prim.Native.Nat.{_≤_, _-_}

@@ -1,4 +1,4 @@
--- `columns::actions::same` compares three numbers, one after the other. Assumes nothing.
+-- `noting::actions::same` compares three numbers, one after the other. Assumes nothing.
 use borrow.Author.Needs.{needs}
 use Rattle.noting.specs.ActionLaws.{code-not, code-other, code-same}
 use Rattle.noting.proofs.actions.same.Statement.{statement}

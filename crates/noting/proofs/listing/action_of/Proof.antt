@@ -1,4 +1,4 @@
--- `columns::listing::action_of` goes by the first number. Assumes nothing.
+-- `noting::listing::action_of` goes by the first number. Assumes nothing.
 use mathlib.Core.Path.{sym, ap}
 use Prim.Native.Nat.{ℕ}
 use lib.ListN.{getD}

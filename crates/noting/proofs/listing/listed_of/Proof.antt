@@ -1,4 +1,4 @@
--- `columns::listing::listed_of` wraps the action. Assumes nothing.
+-- `noting::listing::listed_of` wraps the action. Assumes nothing.
 use mathlib.Core.Path.{ap}
 use Rattle.rules.specs.declared.model.RepairAction.{RepairAction}
 use borrow.Author.Needs.{needs}

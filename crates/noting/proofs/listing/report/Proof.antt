@@ -1,4 +1,4 @@
--- `columns::listing::report` makes one action after another. Assumes nothing.
+-- `noting::listing::report` makes one action after another. Assumes nothing.
 use mathlib.Core.Path.{refl}
 use mathlib.Core.List.{[], map}
 use Prim.Native.Nat.{_≤_, _-_}

@@ -1,4 +1,4 @@
--- `columns::sweep::first_empty` passes one slot after another until one is empty. Assumes nothing.
+-- `noting::sweep::first_empty` passes one slot after another until one is empty. Assumes nothing.
 use Prim.Native.Nat.{_-_}
 use native.Mathlib.Omega.{arith}
 use Rattle.columns.specs.PackLaws.{Looked, looked-none, looked-more, looked-found, looked-all}

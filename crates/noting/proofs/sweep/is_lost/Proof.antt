@@ -1,4 +1,4 @@
--- `columns::sweep::is_lost` tests the flag, then the kind. Assumes nothing.
+-- `noting::sweep::is_lost` tests the flag, then the kind. Assumes nothing.
 use borrow.Author.Needs.{needs}
 use Rattle.noting.proofs.sweep.is_lost.Statement.{statement}
 use Rattle.noting.proofs.sweep.is_lost.Tie as tie

@@ -1,4 +1,4 @@
--- `columns::sweep::none_lost` passes one slot after another until one is occupied and not claimed. Assumes nothing.
+-- `noting::sweep::none_lost` passes one slot after another until one is occupied and not claimed. Assumes nothing.
 use mathlib.Core.Path.{_≡_, refl, sym, _∙_}
 use Prim.Native.Nat.{_≤_, _-_}
 use native.Mathlib.Omega.{arith}

@@ -1,4 +1,4 @@
--- `nodes::splits::at_least` meets its contract: the number written in the code is the rule's. Assumes nothing.
+-- `parting::splits::at_least` meets its contract: the number written in the code is the rule's. Assumes nothing.
 use mathlib.Core.Path.{ap, _∙_}
 use Rattle.rules.specs.Numbers.{larger}
 use Rattle.nodes.proofs.SplitLaws.{a-hundredth}

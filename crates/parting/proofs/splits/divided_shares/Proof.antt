@@ -1,4 +1,4 @@
--- `nodes::splits::divided_shares` divides one share in two. Assumes nothing.
+-- `parting::splits::divided_shares` divides one share in two. Assumes nothing.
 use mathlib.Core.Path.{sym, ap, subst, _∙_}
 use native.Mathlib.Omega.{arith}
 use lib.ListN.{getD, set}

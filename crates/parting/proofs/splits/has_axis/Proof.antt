@@ -1,4 +1,4 @@
--- `nodes::splits::has_axis` goes by the slot's kind. Assumes nothing.
+-- `parting::splits::has_axis` goes by the slot's kind. Assumes nothing.
 use mathlib.Core.Path.{sym, ap, _∙_}
 use Rattle.rules.specs.Tree.{nodeOf}
 use Rattle.rules.specs.Insert.{hasAxis}

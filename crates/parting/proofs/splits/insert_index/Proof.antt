@@ -1,4 +1,4 @@
--- `nodes::splits::insert_index` goes by the placement. Assumes nothing.
+-- `parting::splits::insert_index` goes by the placement. Assumes nothing.
 use Rattle.nodes.proofs.SplitLaws.{index-after}
 use borrow.Author.Needs.{needs}
 use Rattle.parting.proofs.splits.insert_index.Statement.{statement}

@@ -1,4 +1,4 @@
--- `nodes::splits::inserted_in` grows the three lists of a split. Assumes nothing.
+-- `parting::splits::inserted_in` grows the three lists of a split. Assumes nothing.
 use mathlib.Core.Path.{refl, sym, ap, subst, _∙_}
 use native.Mathlib.Omega.{arith}
 use Prim.Native.Nat.{ℕ, _≤_}

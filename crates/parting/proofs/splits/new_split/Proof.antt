@@ -1,4 +1,4 @@
--- `nodes::splits::new_split` goes by the placement. Assumes nothing.
+-- `parting::splits::new_split` goes by the placement. Assumes nothing.
 use mathlib.Core.Path.{sym, ap, _∙_}
 use mathlib.Core.List.{[], _∷_}
 use Rattle.rules.specs.Tree.{split}

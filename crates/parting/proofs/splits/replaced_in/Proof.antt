@@ -1,4 +1,4 @@
--- `nodes::splits::replaced_in` meets its contract. Assumes nothing.
+-- `parting::splits::replaced_in` meets its contract. Assumes nothing.
 use mathlib.Core.Path.{refl}
 use Rattle.nodes.proofs.SplitLaws.{replaced-is}
 use borrow.Author.Needs.{needs}

@@ -1,4 +1,4 @@
--- `nodes::splits::same_axis` goes by both axes. Assumes nothing.
+-- `parting::splits::same_axis` goes by both axes. Assumes nothing.
 use mathlib.Core.Path.{sym}
 use Rattle.rules.specs.Tree.{sameAxis}
 use borrow.Author.Needs.{needs}

@@ -1,4 +1,4 @@
--- `nodes::splits::split_of` meets its contract. Assumes nothing.
+-- `parting::splits::split_of` meets its contract. Assumes nothing.
 use mathlib.Core.Path.{_∙_}
 use Rattle.rules.specs.Tree.{split}
 use Rattle.rules.specs.declared.model.Kind.the-variants.{Split}

@@ -1,4 +1,4 @@
--- `nodes::splits::target_share` meets its contract. Assumes nothing.
+-- `parting::splits::target_share` meets its contract. Assumes nothing.
 use mathlib.Core.Path.{ap, _∙_}
 use lib.Ieee.{Float, binary64, sub}
 use Rattle.rules.specs.Numbers.{larger, hundredth}

@@ -1,4 +1,4 @@
--- `layout::input::bounds_ok`: each test of the rule, in its order. Assumes nothing.
+-- `placing::input::bounds_ok`: each test of the rule, in its order. Assumes nothing.
 use mathlib.Core.Bool.{_&&_}
 use lib.Ieee.{le}
 use borrow.Author.Needs.{needs}

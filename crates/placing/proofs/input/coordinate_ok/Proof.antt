@@ -1,4 +1,4 @@
--- `layout::input::coordinate_ok`: both comparisons. Assumes nothing.
+-- `placing::input::coordinate_ok`: both comparisons. Assumes nothing.
 use lib.Ieee.{ofBits, neg}
 use Rattle.placing.proofs.PlaceLaws.{and-on, and-off}
 use Rattle.placing.proofs.input.coordinate_ok.Statement.{statement}

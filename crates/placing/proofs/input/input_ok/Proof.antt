@@ -1,4 +1,4 @@
--- `layout::input::input_ok`: each test of the rule, in its order. Assumes nothing.
+-- `placing::input::input_ok`: each test of the rule, in its order. Assumes nothing.
 use mathlib.Core.Bool.{_&&_}
 use Rattle.rules.specs.Frame.{inputOk}
 use borrow.Author.Needs.{needs}

@@ -1,4 +1,4 @@
--- `layout::input::plus_input`: each number by itself. Assumes nothing.
+-- `placing::input::plus_input`: each number by itself. Assumes nothing.
 use Rattle.rules.specs.Frame.{plusInput}
 use borrow.Author.Needs.{needs}
 use Rattle.placing.proofs.input.plus_input.Statement.{statement}

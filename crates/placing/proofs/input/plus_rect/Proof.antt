@@ -1,4 +1,4 @@
--- `layout::input::plus_rect`: each side by itself. Assumes nothing.
+-- `placing::input::plus_rect`: each side by itself. Assumes nothing.
 use Rattle.rules.specs.Tabs.{rect}
 use borrow.Author.Needs.{needs}
 use Rattle.placing.proofs.input.plus_rect.Statement.{statement}

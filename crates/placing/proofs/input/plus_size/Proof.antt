@@ -1,4 +1,4 @@
--- `layout::input::plus_size`: each side by itself. Assumes nothing.
+-- `placing::input::plus_size`: each side by itself. Assumes nothing.
 use borrow.Author.Needs.{needs}
 use Rattle.placing.proofs.input.plus_size.Statement.{statement}
 use Rattle.placing.proofs.input.plus_size.Tie as tie

@@ -1,4 +1,4 @@
--- `layout::input::size_ok`: each test of the rule. Assumes nothing.
+-- `placing::input::size_ok`: each test of the rule. Assumes nothing.
 use mathlib.Core.Bool.{_&&_}
 use borrow.Author.Needs.{needs}
 use Rattle.placing.proofs.input.size_ok.Statement.{statement}

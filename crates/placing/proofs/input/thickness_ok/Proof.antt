@@ -1,4 +1,4 @@
--- `layout::input::thickness_ok`: both comparisons. Assumes nothing.
+-- `placing::input::thickness_ok`: both comparisons. Assumes nothing.
 use lib.Ieee.{ofBits}
 use Rattle.placing.proofs.PlaceLaws.{and-on, and-off}
 use Rattle.placing.proofs.input.thickness_ok.Statement.{statement}

@@ -1,4 +1,4 @@
--- `layout::splits::along_rect`, by the axis. Assumes nothing.
+-- `placing::splits::along_rect`, by the axis. Assumes nothing.
 use mathlib.Core.Path.{sym, ap}
 use Rattle.rules.specs.Frame.{alongRect}
 use Rattle.rules.specs.declared.model.Axis.{Axis}

@@ -1,4 +1,4 @@
--- `layout::splits::child_total`: each part of the rule. Assumes nothing.
+-- `placing::splits::child_total`: each part of the rule. Assumes nothing.
 use mathlib.Core.Path.{ap, _∙_}
 use lib.Ieee.{binary64, sub, mul, ofBits}
 use Rattle.rules.specs.Numbers.{zero-f, whole, larger}

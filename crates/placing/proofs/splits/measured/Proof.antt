@@ -1,4 +1,4 @@
--- `layout::splits::measured` meets its contract: an array by value has 16 places. Assumes nothing.
+-- `placing::splits::measured` meets its contract: an array by value has 16 places. Assumes nothing.
 use mathlib.Core.Path.{_≡_}
 use native.Mathlib.Omega.{arith}
 use borrow.Author.Needs.{needs}

@@ -1,4 +1,4 @@
--- `layout::splits::split_lengths`: the shares and minima of the rule, then its solver. Assumes nothing.
+-- `placing::splits::split_lengths`: the shares and minima of the rule, then its solver. Assumes nothing.
 use mathlib.Core.Path.{sym, ap, _∙_}
 use lib.ListN.{getD, take}
 use Rattle.rules.specs.Minima.{splitMinMajor}

@@ -1,4 +1,4 @@
--- `lists::reals::empty` holds nothing: a fresh array is the padding of no entries. Assumes nothing.
+-- `real_lists::reals::empty` holds nothing: a fresh array is the padding of no entries. Assumes nothing.
 use mathlib.Core.Path.{refl}
 use native.Mathlib.Omega.{arith}
 use lib.Ieee.{ofBits}

@@ -1,4 +1,4 @@
--- `lists::reals::first` copies a part to a fresh list. Assumes nothing.
+-- `real_lists::reals::first` copies a part to a fresh list. Assumes nothing.
 use mathlib.Core.Path.{_≡_, refl, sym, _∙_}
 use Prim.Native.Nat.{_≤_, _-_}
 use native.Mathlib.Omega.{arith}

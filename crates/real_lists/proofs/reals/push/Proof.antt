@@ -1,4 +1,4 @@
--- `lists::reals::push` is one store just past the entries in use. Assumes nothing.
+-- `real_lists::reals::push` is one store just past the entries in use. Assumes nothing.
 use mathlib.Core.Path.{_≡_}
 use Prim.Native.Nat.{_<_}
 use native.Mathlib.Omega.{arith}

@@ -1,4 +1,4 @@
--- `lists::reals::repeat` fills a fresh list with one number. Assumes nothing.
+-- `real_lists::reals::repeat` fills a fresh list with one number. Assumes nothing.
 use mathlib.Core.Path.{refl, sym}
 use Prim.Native.Nat.{_-_}
 use native.Mathlib.Omega.{arith}

@@ -1,4 +1,4 @@
--- `lists::reals::replace` is one store within the entries in use. Assumes nothing.
+-- `real_lists::reals::replace` is one store within the entries in use. Assumes nothing.
 use borrow.Author.Needs.{needs}
 use Rattle.lists.specs.Build.{replaced}
 use Rattle.real_lists.proofs.reals.replace.Statement.{statement}

@@ -1,4 +1,4 @@
--- `normalize::leaves::gone` notes the id, and does nothing else. Assumes nothing.
+-- `sifting::leaves::gone` notes the id, and does nothing else. Assumes nothing.
 use mathlib.Core.Path.{refl}
 use borrow.Author.Needs.{needs}
 use Rattle.rules.specs.Tree.{tile}

@@ -1,4 +1,4 @@
--- `normalize::leaves::group_step` claims the slot, keeps the panes not seen before, and stores what is left. Assumes nothing.
+-- `sifting::leaves::group_step` claims the slot, keeps the panes not seen before, and stores what is left. Assumes nothing.
 use mathlib.Core.Path.{refl}
 use mathlib.Core.List.{[], _∷_}
 use Prim.Native.Nat.{_≤_, _<_, _+_}

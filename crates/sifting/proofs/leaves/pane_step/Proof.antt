@@ -1,4 +1,4 @@
--- `normalize::leaves::pane_step` claims the slot; the first sight of a pane wins. Assumes nothing.
+-- `sifting::leaves::pane_step` claims the slot; the first sight of a pane wins. Assumes nothing.
 use mathlib.Core.List.{[]}
 use mathlib.Core.Path.{refl, sym, _∙_}
 use Prim.Native.Nat.{_<_}

@@ -1,4 +1,4 @@
--- `normalize::panes::active_of` looks the pane up, and then its place. Assumes nothing.
+-- `sifting::panes::active_of` looks the pane up, and then its place. Assumes nothing.
 use mathlib.Core.Path.{_≡_, sym, ap, _∙_}
 use native.Mathlib.Omega.{arith}
 use borrow.Author.Needs.{needs}

@@ -1,4 +1,4 @@
--- `normalize::panes::keep_pane` is one step of the rule's `retain`. Assumes nothing.
+-- `sifting::panes::keep_pane` is one step of the rule's `retain`. Assumes nothing.
 use mathlib.Core.Path.{refl, sym, _∙_}
 use borrow.Author.Needs.{needs}
 use Rattle.rules.specs.Tree.{tile}

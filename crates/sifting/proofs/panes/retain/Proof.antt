@@ -1,4 +1,4 @@
--- `normalize::panes::retain` is the rule's `retain`: its loop, by what is left. Assumes nothing.
+-- `sifting::panes::retain` is the rule's `retain`: its loop, by what is left. Assumes nothing.
 use mathlib.Core.Path.{_≡_, refl, _∙_}
 use Prim.Native.Nat.{_-_}
 use native.Mathlib.Omega.{arith}

@@ -1,4 +1,4 @@
--- `normalize::panes::saw` passes one pane after another until one is the same. Assumes nothing.
+-- `sifting::panes::saw` passes one pane after another until one is the same. Assumes nothing.
 use mathlib.Core.Path.{refl}
 use Prim.Native.Nat.{_≤_, _-_}
 use native.Mathlib.Omega.{arith}

@@ -1,4 +1,4 @@
--- `normalize::panes::see` is one store just past the panes seen. Assumes nothing.
+-- `sifting::panes::see` is one store just past the panes seen. Assumes nothing.
 use mathlib.Core.Path.{refl}
 use native.Mathlib.Numerals.{add-one}
 use native.Mathlib.Omega.{arith}

@@ -1,4 +1,4 @@
--- `layout::stream::push`: one entry more, or nothing. Assumes nothing.
+-- `streaming::stream::push`: one entry more, or nothing. Assumes nothing.
 use mathlib.Core.Path.{sym, ap}
 use mathlib.Core.Bool.{Bool}
 use borrow.Author.Tests.{lt-ltb, le-ltb}

@@ -1,4 +1,4 @@
--- `layout::stream::push_bar`: a row of its own, with the placement as a number. Assumes nothing.
+-- `streaming::stream::push_bar`: a row of its own, with the placement as a number. Assumes nothing.
 use mathlib.Core.Path.{ap, _∙_}
 use Prim.Native.Nat.{ℕ}
 use Rattle.streaming.specs.Stream.{row, sides, stream, pushRow}

@@ -1,4 +1,4 @@
--- `layout::stream::push_focus`: a row of its own, and no rectangle. Assumes nothing.
+-- `streaming::stream::push_focus`: a row of its own, and no rectangle. Assumes nothing.
 use lib.Ieee.{ofBits}
 use borrow.Author.Needs.{needs}
 use Rattle.streaming.proofs.stream.push_focus.Statement.{statement}

@@ -1,4 +1,4 @@
--- `layout::stream::push_tab`: a row of its own, with a number for whether it is active. Assumes nothing.
+-- `streaming::stream::push_tab`: a row of its own, with a number for whether it is active. Assumes nothing.
 use mathlib.Core.Path.{ap, _∙_}
 use Prim.Native.Nat.{ℕ}
 use Rattle.streaming.specs.Stream.{row, sides, stream, pushRow}

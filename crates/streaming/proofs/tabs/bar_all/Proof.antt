@@ -1,4 +1,4 @@
--- `layout::tabs::bar_all`: nothing, or the bar and its tabs. Assumes nothing.
+-- `streaming::tabs::bar_all`: nothing, or the bar and its tabs. Assumes nothing.
 use mathlib.Core.Path.{sym, _∙_}
 use Prim.Native.Nat.{_≤_}
 use native.Mathlib.Omega.{arith}

@@ -1,4 +1,4 @@
--- `layout::tabs::focus_all`: what is left of the panes. Assumes nothing.
+-- `streaming::tabs::focus_all`: what is left of the panes. Assumes nothing.
 use mathlib.Core.Path.{_≡_, refl}
 use Prim.Native.Nat.{_-_, _≤_}
 use native.Mathlib.Omega.{arith}

@@ -1,4 +1,4 @@
--- `layout::tabs::is_hidden`, by the placement. Assumes nothing.
+-- `streaming::tabs::is_hidden`, by the placement. Assumes nothing.
 use mathlib.Core.Path.{sym, ap}
 use Rattle.rules.specs.Tree.{samePlacement}
 use Rattle.rules.specs.declared.model.TabBarPlacement.{TabBarPlacement}

@@ -1,4 +1,4 @@
--- `layout::tabs::layout_tabs`: focus order, bar and tabs, then the active pane. Assumes nothing.
+-- `streaming::tabs::layout_tabs`: focus order, bar and tabs, then the active pane. Assumes nothing.
 use mathlib.Core.Path.{_≡_, sym, ap, _∙_}
 use Prim.Native.Nat.{ℕ, _-_, _≤_, _<_, min}
 use native.Mathlib.Nat.{pos-of-ne-zero}

@@ -1,4 +1,4 @@
--- `layout::tabs::tab_all`: what is left of the tabs. Assumes nothing.
+-- `streaming::tabs::tab_all`: what is left of the tabs. Assumes nothing.
 use mathlib.Core.Path.{_≡_, refl}
 use Prim.Native.Nat.{_-_, _≤_}
 use native.Mathlib.Omega.{arith}

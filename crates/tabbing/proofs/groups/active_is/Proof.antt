@@ -1,4 +1,4 @@
--- `nodes::groups::active_is` goes by the slot's kind. Assumes nothing.
+-- `tabbing::groups::active_is` goes by the slot's kind. Assumes nothing.
 use mathlib.Core.Path.{sym, ap}
 use Rattle.rules.specs.Tree.{nodeOf}
 use Rattle.rules.specs.Operations.{activeIs}

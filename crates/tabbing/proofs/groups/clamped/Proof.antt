@@ -1,4 +1,4 @@
--- `nodes::groups::clamped` goes by the index. Assumes nothing.
+-- `tabbing::groups::clamped` goes by the index. Assumes nothing.
 use mathlib.Core.Path.{sym, ap, subst, _∙_}
 use Prim.Native.Nat.{ℕ, _≤_}
 use native.Mathlib.Nat.{min-le-right}

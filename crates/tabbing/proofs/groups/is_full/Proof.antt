@@ -1,4 +1,4 @@
--- `nodes::groups::is_full` goes by the slot's kind. Assumes nothing.
+-- `tabbing::groups::is_full` goes by the slot's kind. Assumes nothing.
 use mathlib.Core.Path.{sym, ap}
 use Rattle.nodes.specs.Parts.{fullBy}
 use Rattle.rules.specs.declared.model.Kind.{Kind}

@@ -1,4 +1,4 @@
--- `nodes::groups::kept_active` meets its contract. Assumes nothing.
+-- `tabbing::groups::kept_active` meets its contract. Assumes nothing.
 use mathlib.Core.Path.{_∙_}
 use native.Mathlib.Omega.{arith}
 use Rattle.rules.specs.Tree.{ids}

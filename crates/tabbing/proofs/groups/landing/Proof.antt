@@ -1,4 +1,4 @@
--- `nodes::groups::landing` meets its contract. Assumes nothing.
+-- `tabbing::groups::landing` meets its contract. Assumes nothing.
 use Rattle.nodes.proofs.SlotLaws.{tabs-few, tabs-place}
 use Rattle.nodes.proofs.GroupLaws.{group-kind, landed}
 use borrow.Author.Needs.{needs}

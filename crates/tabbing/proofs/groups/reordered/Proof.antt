@@ -1,4 +1,4 @@
--- `nodes::groups::reordered` meets its contract. Assumes nothing.
+-- `tabbing::groups::reordered` meets its contract. Assumes nothing.
 use mathlib.Core.Path.{refl}
 use Rattle.nodes.proofs.SlotLaws.{tabs-few, tabs-place}
 use Rattle.nodes.proofs.GroupLaws.{group-kind, reorder-places, reordered-is}

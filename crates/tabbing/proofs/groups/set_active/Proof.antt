@@ -1,4 +1,4 @@
--- `nodes::groups::set_active` meets its contract. Assumes nothing.
+-- `tabbing::groups::set_active` meets its contract. Assumes nothing.
 use mathlib.Core.Path.{refl}
 use Rattle.nodes.proofs.GroupLaws.{activated}
 use Rattle.tabbing.proofs.groups.set_active.Statement.{statement}

@@ -1,4 +1,4 @@
--- `nodes::groups::tabbed_in` goes by the slot's kind. Assumes nothing.
+-- `tabbing::groups::tabbed_in` goes by the slot's kind. Assumes nothing.
 use mathlib.Core.Path.{refl}
 use Rattle.rules.specs.Operations.{tabbedIn}
 use Rattle.rules.specs.declared.model.Kind.the-variants.{Split}

@@ -1,4 +1,4 @@
--- `lists::tiles::empty` holds nothing: a fresh array is the padding of no entries. Assumes nothing.
+-- `tile_lists::tiles::empty` holds nothing: a fresh array is the padding of no entries. Assumes nothing.
 use mathlib.Core.Path.{refl}
 use native.Mathlib.Omega.{arith}
 use Rattle.lists.specs.Exact.{padTo}

@@ -1,4 +1,4 @@
--- `lists::tiles::first` copies a part to a fresh list. Assumes nothing.
+-- `tile_lists::tiles::first` copies a part to a fresh list. Assumes nothing.
 use mathlib.Core.Path.{_≡_, refl, sym, _∙_}
 use Prim.Native.Nat.{_≤_, _-_}
 use native.Mathlib.Omega.{arith}

@@ -1,4 +1,4 @@
--- `lists::tiles::left`: before the place, and from it on. Assumes nothing.
+-- `tile_lists::tiles::left`: before the place, and from it on. Assumes nothing.
 use mathlib.Core.Path.{sym, ap, _∙_}
 use Prim.Native.Nat.{ℕ}
 use native.Mathlib.Numerals.{add-one}

@@ -1,4 +1,4 @@
--- `lists::tiles::position` passes one entry after another until one is the tile. Assumes nothing.
+-- `tile_lists::tiles::position` passes one entry after another until one is the tile. Assumes nothing.
 use mathlib.Core.Path.{_≡_, sym, ap, _∙_}
 use Prim.Native.Nat.{_≤_, _-_}
 use native.Mathlib.Omega.{arith}

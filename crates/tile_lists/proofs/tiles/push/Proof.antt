@@ -1,4 +1,4 @@
--- `lists::tiles::push` is one store just past the entries in use. Assumes nothing.
+-- `tile_lists::tiles::push` is one store just past the entries in use. Assumes nothing.
 use mathlib.Core.Path.{_≡_}
 use Prim.Native.Nat.{_<_}
 use native.Mathlib.Omega.{arith}

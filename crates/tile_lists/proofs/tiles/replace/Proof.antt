@@ -1,4 +1,4 @@
--- `lists::tiles::replace` is one store within the entries in use. Assumes nothing.
+-- `tile_lists::tiles::replace` is one store within the entries in use. Assumes nothing.
 use borrow.Author.Needs.{needs}
 use Rattle.lists.specs.Build.{replaced}
 use Rattle.tile_lists.proofs.tiles.replace.Statement.{statement}
