@@ -10,7 +10,7 @@ use streaming::stream;
 use streaming::tabs;
 ghost use mathlib.Core.Path.{_≡_};
 ghost use mathlib.Core.List.{[], map};
-ghost use Prim.Native.Nat.{_≤_, _<_};
+ghost use Prim.Native.Nat.{_<_};
 ghost use lib.ListN.{getD, take};
 ghost use Rattle.rules.specs.Tree.{tile};
 ghost use Rattle.rules.specs.Frame as Rule;

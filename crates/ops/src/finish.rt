@@ -14,7 +14,7 @@ ghost use Rattle.columns.specs.Pack.{Even};
 ghost use Rattle.docking.specs.Steps.{Makes, Comes};
 
 pub fn refused(root: u64, revision: u64, e: Refusal) -> AppliedIn
-    ensures { λ r. ⌜ (r .answer ≡ Answers.Refused e) × (r .changed ≡ false) ⌝ }
+    ensures { λ r. ⌜ (r .answer ≡ Answers.Refused e) × (r .changed ≡ false) × (r .root ≡ root) × (r .revision ≡ revision) ⌝ }
 {
     AppliedIn {
         answer: Answer::Refused(e),

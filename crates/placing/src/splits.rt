@@ -4,7 +4,6 @@ use rules::frame::Rect;
 use rules::model::Axis;
 use rules::model::Reals;
 ghost use mathlib.Core.Path.{_≡_};
-ghost use mathlib.Core.List.{map};
 ghost use Prim.Native.Nat.{_-_, _≤_};
 ghost use lib.ListN.{length, getD, take};
 ghost use Rattle.rules.specs.Tree.{reals};

@@ -3,7 +3,6 @@ use crate::Repairing;
 use columns::pack;
 use columns::slots;
 use columns::unpack;
-use noting::actions;
 use noting::listing;
 use rules::model::TileId;
 use rules::model::TileTree;

@@ -9,7 +9,6 @@ ghost use mathlib.Core.List.{[]};
 ghost use mathlib.Core.Path.{_≡_};
 ghost use Prim.Native.Nat.{_≤_, _<_};
 ghost use lib.ListN.{length, getD};
-ghost use Rattle.rules.specs.Tree.{tile};
 ghost use Rattle.sifting.specs.Steps.{Open, Dropped, LeafWalked, GroupWalked};
 
 // A bad, empty or claimed id: noted, and dropped.

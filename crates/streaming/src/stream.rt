@@ -3,10 +3,9 @@ use rules::frame::Rect;
 use rules::model::Axis;
 use rules::model::TabBarPlacement;
 ghost use mathlib.Core.Path.{_≡_};
-ghost use mathlib.Core.Bool.{Bool};
 ghost use Rattle.rules.specs.Tree.{tile, axisCode};
-ghost use Rattle.rules.specs.Frame.{Item, aPane, aBar, aTab, aChild, aHandle, handleBy};
-ghost use Rattle.streaming.specs.Stream.{stream, sides, flagCode, pushRow, pushItem, pushAll};
+ghost use Rattle.rules.specs.Frame.{Item, aPane, aBar, aTab, aChild, aHandle};
+ghost use Rattle.streaming.specs.Stream.{stream, sides, flagCode, pushRow, pushItem};
 
 pub const FOCUS: u64 = 0;
 

@@ -3,7 +3,6 @@ use libc::STDOUT_FILENO;
 use rules::model::TileTree;
 use wire::threes::Numbers;
 ghost use Prim.Native.Nat.{_≤_};
-ghost use lib.ListN.{length};
 
 mod cases;
 mod marked;
