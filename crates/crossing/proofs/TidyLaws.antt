@@ -8,9 +8,9 @@ use lib.ListN.{length, getD, length-map}
 use lib.Ieee.{Float}
 use Rattle.rules.specs.Lists.{anyOf}
 use Rattle.rules.specs.Tree.{tile}
+use Rattle.forest.specs.Bools.{or-left, or-right}
 use Rattle.columns.specs.Columns.{nodeBy, nodeFrom, nodesFrom}
 use Rattle.columns.specs.Pack.{overHead, overKind, overOf}
-use Rattle.columns.specs.PackLaws.{or-left, or-right}
 use Rattle.columns.specs.Shown.{Plain}
 use Rattle.coding.specs.Lent.{lot, lent, tidiedBy, tidied}
 use Rattle.crossing.specs.Parts.{tidyBy, tidyHeads}
