@@ -14,6 +14,7 @@ use Rattle.rules.specs.Table.{Row, panesUsed, sharesUsed, minimaUsed, sumRows, 
 use Rattle.rules.specs.Spec.{leftOf, validate, Build, build, pushSpec, builtNodes}
 use Rattle.forest.specs.Lists.{Distinct, never}
 use Rattle.forest.specs.Loose.{Loose, end, shown, Held}
+use Rattle.forest.specs.Bools.{and-both}
 use Rattle.accepted.specs.Sprout.{upFrom, up-distinct, Grew, builds}
 use Rattle.accepted.specs.Once.{none-left, panes-fresh}
 
@@ -56,10 +57,6 @@ module _ (t : Table) where
   pub read-fits : (bs : List ℕ) → readTable bs ≡ some t → rowsFit t ≡ true
   unfolding readTable
   read-fits bs e = after-fit (section 8 bs) e
-
-and-both : (a b : Bool) → (a && b) ≡ true → (a ≡ true) × (b ≡ true)
-and-both true b e = (refl, e)
-and-both false b e = never (sym e)
 
 -- ---- what is built from a table that passed validation is a loose forest that shows the panes section
 

@@ -23,10 +23,6 @@ slice-join (suc a) (suc b) zero l h k = absurd (omega arith)
 slice-join (suc a) (suc b) (suc c) [] h k = refl
 slice-join (suc a) (suc b) (suc c) (x ∷ l) h k = slice-join a b c l (le-of-suc-le-suc h) (le-of-suc-le-suc k)
 
-pub map-append : {A B : Type 0} (f : A → B) (xs ys : List A) → map f (xs ++ ys) ≡ map f xs ++ map f ys
-map-append f [] ys = refl
-map-append f (x ∷ xs) ys = ap (λ (l : List _). f x ∷ l) (map-append f xs ys)
-
 pub left-join : (xs ys : List Row) (l : Left) → leftOver (xs ++ ys) l ≡ leftOver ys (leftOver xs l)
 unfolding leftOver
 left-join [] ys l = refl

@@ -1,7 +1,7 @@
 -- A row's children, one after another: the loop of push_spec, turn by turn. Assumes nothing.
 use mathlib.Core.Path.{_≡_, refl, sym, ap, subst, _∙_}
 use mathlib.Core.Bool.{false}
-use mathlib.Core.List.{List, [], _∷_, _++_, map, append-nil, append-assoc}
+use mathlib.Core.List.{List, [], _∷_, _++_, map, append-nil, append-assoc, map-append}
 use Prim.Native.Nat.{ℕ, zero, suc, _+_, _-_, _*_, _≤_, _<_}
 use native.Mathlib.Numerals.{add-one}
 use native.Mathlib.Omega.{arith}
@@ -13,7 +13,7 @@ use Rattle.rules.specs.Table.{Row, paneRow, tabsRow, splitRow, childrenUsed}
 use Rattle.rules.specs.Spec.{Left, after, rowPanes, rowShares, rowMinima, wideRow, build, Children, pushChildren, setSplit, pushRow, pushNext, pushSpec}
 use Rattle.reader.specs.Bytes.{inner}
 use Rattle.build.specs.Push.{childrenAt, rowNode, nodesFrom, leftOver, Pushed}
-use Rattle.build.specs.PushLaws.{slice-join, map-append, left-join, nodes-join, length-nodes, nodes-after, nodes-before, any-drop, any-take}
+use Rattle.build.specs.PushLaws.{slice-join, left-join, nodes-join, length-nodes, nodes-after, nodes-before, any-drop, any-take}
 
 -- j of the n children of the row `at` are built, and `next` is the row that comes after them
 pub record Filling (rows : List Row) (at n : ℕ) (kids₀ kids : List ℕ) (j next : ℕ) : Type 0 where

@@ -20,12 +20,12 @@ use Rattle.rules.specs.declared.model.Axis.{Axis}
 use Rattle.rules.specs.declared.model.TabBarPlacement.{TabBarPlacement}
 use Rattle.rules.specs.declared.model.RepairAction.the-variants.{RepairedActiveTab, RepairedShares, RepairedConstraints}
 use Rattle.forest.specs.Lists.{All, Distinct, never, all-map, all-left, all-right, contains-false, false-contains, set-back}
-use Rattle.forest.specs.Mended.{aligned-length}
+use Rattle.forest.specs.Lengths.{aligned-length}
 use Rattle.forest.specs.Equal.{shares-kept}
-use Rattle.forest.specs.Codec.{Least, start-least, long-children}
+use Rattle.forest.specs.Codec.{Least, start-least, long-children, entries-children, entries-shares}
 use Rattle.forest.specs.Grow.{Good, Works, good-after, kid-keeps, tile-keeps, active-lt}
 use Rattle.forest.specs.Again.{active-same}
-use Rattle.forest.specs.Quiet.{plainNode, passed, added-never, addedIf-none, Keeping, Mono, Silent, Hushed, retain-grows, group-grows, place-grows, split-grows, kids-grow, noted-none, walk-grows, retain-hushed, kids-hushed, walk-hushed, children-back, shares-back}
+use Rattle.forest.specs.Quiet.{plainNode, passed, added-never, addedIf-none, Keeping, Mono, Silent, Hushed, retain-grows, group-grows, place-grows, split-grows, kids-grow, noted-none, walk-grows, retain-hushed, kids-hushed, walk-hushed}
 use Rattle.calm.specs.Calm.{Look, look, taking, calmPanes, seeing, calmGroup, unmelted, calmKids, calmSplit, calmNode, calmTile, calm}
 
 -- nothing was noted, and these are claimed and seen; or something was noted
@@ -230,7 +230,7 @@ module _ (ns : List Node) where
         lo = let (l, o) = shares-kept (length cs) ss b1 in ap length o ∙ l
 
         long : length es ≡ length cs
-        long = sym (long-children es) ∙ ap length (children-back again g k hush i w good cs old mins lo (aligned-length (length cs) ms))
+        long = sym (long-children es) ∙ ap length (entries-children cs old mins lo (aligned-length (length cs) ms))
 
         -- the children were all kept: the split stays where they are two or more
         stays : (xs : List Entry) → v .list ≡ xs → xs ≡ es → v .moved ≡ false → v .left .actions ≡ [] → (c : Bool) → leb 2 (length cs) ≡ c
@@ -242,7 +242,7 @@ module _ (ns : List Node) where
         stays (x ∷ y ∷ zs) p q m n false z = absurd (omega (arith, leb-false 2 (length cs) z, long, ap length q))
         stays (x ∷ y ∷ zs) p q m n true z =
             let now : repairedShares (length (x ∷ y ∷ zs)) (sharesOf (x ∷ y ∷ zs)) ≡ old =
-            (λ h. repairedShares ((ap length q ∙ long) h) ((ap sharesOf q ∙ shares-back again g k hush i w good cs old mins lo (aligned-length (length cs) ms) ∙ shares-kept (length cs) ss b1 .1) h)) in (
+            (λ h. repairedShares ((ap length q ∙ long) h) ((ap sharesOf q ∙ entries-shares cs old mins lo (aligned-length (length cs) ms) ∙ shares-kept (length cs) ss b1 .1) h)) in (
               ap (λ (c : Bool). addedIf (c || not (eqReals (repairedShares (length (x ∷ y ∷ zs)) (sharesOf (x ∷ y ∷ zs))) ss)) (RepairedShares i) (v .left .actions)) m
                   ∙ ap (λ (c : Bool). addedIf (not c) (RepairedShares i) (v .left .actions)) (ap (λ (l : List Float). eqReals l ss) now ∙ b1) ∙ n,
               refl,

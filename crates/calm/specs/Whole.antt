@@ -5,11 +5,9 @@ use mathlib.Core.List.{List, [], _∷_}
 use mathlib.Core.Option.{Option, none, some}
 use Prim.Native.Nat.{ℕ, suc}
 use native.Mathlib.Omega.{arith}
-use lib.Dec.{ltb}
-use lib.ListN.{length, getD, replicate, length-map}
-use Rattle.rules.specs.Numbers.{plus}
-use Rattle.rules.specs.Lists.{anyOf, wideList}
-use Rattle.rules.specs.Tree.{Node, empty, pane, tabs, split, Arena, isEmpty, wideNode, emptySlots, readingFrom}
+use lib.ListN.{length, getD, replicate}
+use Rattle.rules.specs.Lists.{anyOf}
+use Rattle.rules.specs.Tree.{Node, empty, Arena, isEmpty, wideNode, emptySlots, readingFrom}
 use Rattle.rules.specs.Repair.{Normal, Work, Out, begin, normalizeNode, sweep, sweepActions, swept, rooted, normalize, repairedBy, repairedAs, repair}
 use Rattle.rules.specs.Sound.{isNone}
 use Rattle.rules.specs.declared.model.TileId.{TileId}
@@ -17,18 +15,12 @@ use Rattle.rules.specs.declared.model.RepairAction.{RepairAction}
 use Rattle.forest.specs.Actions.{all-narrow}
 use Rattle.forest.specs.Grow.{tile-keeps}
 use Rattle.forest.specs.Finish.{repair-whole}
-use Rattle.forest.specs.Quiet.{plainNode, passed, Silent, Mono, sweep-grows, walk-hushed}
+use Rattle.forest.specs.Quiet.{passed, Silent, Mono, sweep-grows, walk-hushed, wide-plain}
 use Rattle.forest.specs.Still.{isStill, noneLost, still-kept, still-gone}
 use Rattle.calm.specs.Calm.{Look, look, calm, calmEnd, calmArena}
 use Rattle.calm.specs.Tracks.{Tracks, Shown, shown-after, walk-tracks}
 
 -- ---- lists of nodes, place by place
-
-wide-plain : (n : Node) → wideNode (plainNode n) ≡ wideNode n
-wide-plain empty = refl
-wide-plain (pane p) = refl
-wide-plain (tabs b a ps) = refl
-wide-plain (split a cs ss ms) = ap (λ (k : ℕ). wideList cs || wideList ss || ltb 16 k) (length-map ms plus)
 
 none-wide : (xs : List Node) → ((j : ℕ) → wideNode (getD xs j empty) ≡ false) → anyOf wideNode xs ≡ false
 unfolding anyOf

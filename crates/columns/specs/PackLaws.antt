@@ -92,14 +92,14 @@ module _ {A : Type 0} (t : A → Bool) (xs : List A) (i : ℕ) (d : A) (h : i < 
 
 -- ---- slots to columns
 
-bar-back : (b : TabBarPlacement) → barFrom (barCode b) ≡ b
+pub bar-back : (b : TabBarPlacement) → barFrom (barCode b) ≡ b
 bar-back Hidden = refl
 bar-back Top = refl
 bar-back Bottom = refl
 bar-back Left = refl
 bar-back Right = refl
 
-axis-back : (a : Axis) → axisFrom (axisCode a) ≡ a
+pub axis-back : (a : Axis) → axisFrom (axisCode a) ≡ a
 axis-back Horizontal = refl
 axis-back Vertical = refl
 

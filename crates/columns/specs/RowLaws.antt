@@ -1,7 +1,7 @@
 -- Laws of one slot read from columns and written to them. Assumes nothing.
-use mathlib.Core.Path.{_≡_, refl, ap, _∙_}
+use mathlib.Core.Path.{_≡_, refl, ap, _∙_, sym}
 use mathlib.Core.Bool.{Bool, false, _||_}
-use mathlib.Core.List.{List, [], _∷_}
+use mathlib.Core.List.{List, [], _∷_, map}
 use Prim.Native.Nat.{ℕ, zero, suc}
 use lib.Dec.{ltb}
 use lib.Ieee.{Float}
@@ -13,12 +13,13 @@ use Rattle.columns.specs.Columns.{nodesFrom}
 use Rattle.columns.specs.Pack.{headOf, idsOf, sharesOf, minimaOf, Puts, overHead, overKind, overOf, Even}
 use Rattle.columns.specs.ColumnLaws.{nodes-long, nodes-set}
 use Rattle.columns.specs.PackLaws.{node-back, over-head}
+use Rattle.columns.specs.Shown.{Plain}
 use Rattle.forest.specs.Bools.{or-left, or-right}
 
 -- ---- heads of 16 at most
 
 -- a head with no length over 16 has none that its kind uses
-over-used : (k : ℕ) (h : List ℕ) → overHead h ≡ false → overKind k h ≡ false
+pub over-used : (k : ℕ) (h : List ℕ) → overHead h ≡ false → overKind k h ≡ false
 over-used zero h e = refl
 over-used (suc zero) h e = refl
 over-used (suc (suc zero)) h e =
@@ -32,6 +33,13 @@ unfolding anyOf
 head-whole [] i e = refl
 head-whole (h ∷ hs) zero e = or-left (overHead h) (anyOf overHead hs) e
 head-whole (h ∷ hs) (suc i) e = head-whole hs i (or-right (overHead h) (anyOf overHead hs) e)
+
+pub unused-none : (hs : List (List ℕ)) → anyOf overHead hs ≡ false → map overHead hs ≡ map overOf hs
+unfolding anyOf
+unused-none [] e = refl
+unused-none (h ∷ hs) e =
+    let a : overHead h ≡ false = or-left (overHead h) (anyOf overHead hs) e in
+    λ z. (a ∙ sym (over-used (getD h 0 0) h a)) z ∷ unused-none hs (or-right (overHead h) (anyOf overHead hs) e) z
 
 set-whole : (hs : List (List ℕ)) (i : ℕ) (h : List ℕ) → anyOf overHead hs ≡ false → overHead h ≡ false → anyOf overHead (set hs i h) ≡ false
 unfolding anyOf
@@ -68,3 +76,11 @@ module _ (hs xs : List (List ℕ)) (ss ms : List (List Float)) (E : Even hs xs s
           minima = ap length (P .minima) ∙ length-set ms i (minimaOf s) ∙ E .minima;
           whole = ap (anyOf overHead) (P .heads) ∙ set-whole hs i (headOf s) (E .whole) (over-head s ∙ o);
         }
+
+-- ---- such columns are plain
+
+pub even-plain : (hs xs : List (List ℕ)) (ss ms : List (List Float)) → Even hs xs ss ms → Plain hs xs ss ms
+even-plain hs xs ss ms E = record { heads = E .heads; ids = E .ids; shares = E .shares; minima = E .minima; unused = unused-none hs (E .whole) }
+
+pub plain-even : (hs xs : List (List ℕ)) (ss ms : List (List Float)) → Plain hs xs ss ms → anyOf overHead hs ≡ false → Even hs xs ss ms
+plain-even hs xs ss ms P e = record { heads = P .heads; ids = P .ids; shares = P .shares; minima = P .minima; whole = e }

@@ -8,10 +8,10 @@ use lib.ListN.{length, getD, length-map}
 use lib.Ieee.{Float}
 use Rattle.rules.specs.Lists.{anyOf}
 use Rattle.rules.specs.Tree.{tile}
-use Rattle.forest.specs.Bools.{or-left, or-right}
 use Rattle.columns.specs.Columns.{nodeBy, nodeFrom, nodesFrom}
 use Rattle.columns.specs.Pack.{overHead, overKind, overOf}
 use Rattle.columns.specs.Shown.{Plain}
+use Rattle.columns.specs.RowLaws.{unused-none}
 use Rattle.coding.specs.Lent.{lot, lent, tidiedBy, tidied}
 use Rattle.crossing.specs.Parts.{tidyBy, tidyHeads}
 
@@ -58,22 +58,6 @@ unused-tidy [] = refl
 unused-tidy (h ∷ hs) = λ z. plain-tidy h (getD h 0 0) refl z ∷ unused-tidy hs z
 
 -- ---- where no length is over 16 the heads stay as they are
-
-none-over : (k : ℕ) (h : List ℕ) → overHead h ≡ false → overKind k h ≡ false
-none-over zero h e = refl
-none-over (suc zero) h e = refl
-none-over (suc (suc zero)) h e =
-    let a = ltb 16 (getD h 4 0) in
-    let b = ltb 16 (getD h 5 0) in
-    or-left a b (or-left (a || b) (ltb 16 (getD h 6 0)) e)
-none-over (suc (suc (suc k))) h e = e
-
-unused-none : (hs : List (List ℕ)) → anyOf overHead hs ≡ false → map overHead hs ≡ map overOf hs
-unfolding anyOf
-unused-none [] e = refl
-unused-none (h ∷ hs) e =
-    let a : overHead h ≡ false = or-left (overHead h) (anyOf overHead hs) e in
-    λ z. (a ∙ sym (none-over (getD h 0 0) h a)) z ∷ unused-none hs (or-right (overHead h) (anyOf overHead hs) e) z
 
 nodes-by : (b : Bool) (hs xs : List (List ℕ)) (ss ms : List (List Float)) → nodesFrom (tidyBy b hs) xs ss ms ≡ nodesFrom hs xs ss ms
 nodes-by true hs xs ss ms = nodes-tidy hs xs ss ms

@@ -1,6 +1,6 @@
 -- Laws of what follows an operation: the tests of room and width, the revision, and the repair. Assumes nothing.
 use mathlib.Core.Path.{_≡_, refl, sym, ap, _∙_}
-use mathlib.Core.Bool.{Bool, true, false, _||_}
+use mathlib.Core.Bool.{Bool, true, false, _||_, or-true}
 use mathlib.Core.List.{List, [], _∷_, map}
 use mathlib.Core.Option.{Option, none, some}
 use Prim.Native.Nat.{ℕ, zero, suc, _≤_, _<_}
@@ -18,13 +18,12 @@ use Rattle.rules.specs.declared.refusal.Answer.{Answer}
 use Rattle.rules.specs.declared.refusal.Answer.the-variants.{Accepted, Refused}
 use Rattle.rules.specs.declared.refusal.Refusal.{Refusal}
 use Rattle.rules.specs.declared.refusal.Refusal.the-variants.{ArenaFull, TooWide, RevisionExhausted}
-use Rattle.forest.specs.Lists.{All}
+use Rattle.forest.specs.Lists.{All, all-drop}
 use Rattle.forest.specs.Soundness.{slots-inside}
 use Rattle.forest.specs.Finish.{normalized}
 use Rattle.columns.specs.Columns.{nodeBy, nodesFrom}
-use Rattle.columns.specs.Pack.{firstOf, overHead, overOf, Even}
-use Rattle.columns.specs.RowLaws.{even-head, even-row}
-use Rattle.columns.specs.Shown.{arenaFrom, Plain}
+use Rattle.columns.specs.Pack.{firstOf, overHead, Even}
+use Rattle.columns.specs.Shown.{arenaFrom}
 use Rattle.forest.specs.Bools.{or-left, or-right}
 use Rattle.docking.specs.Steps.{Makes, Comes}
 use Rattle.docking.specs.declared.AppliedIn.{AppliedIn}
@@ -62,29 +61,7 @@ narrow-rows (h ∷ hs) (x ∷ xs) (s ∷ ss) [] e = refl
 narrow-rows (h ∷ hs) (x ∷ xs) (s ∷ ss) (m ∷ ms) e =
     λ z. narrow-row (getD h 0 0) h x s m (or-left (overHead h) (anyOf overHead hs) e) z || narrow-rows hs xs ss ms (or-right (overHead h) (anyOf overHead hs) e) z
 
--- in such columns no length stands that the kind does not use
-plain-heads : (hs : List (List ℕ)) → ((i : ℕ) → overHead (getD hs i []) ≡ overOf (getD hs i [])) → map overHead hs ≡ map overOf hs
-plain-heads [] h = refl
-plain-heads (x ∷ hs) h = λ z. h 0 z ∷ plain-heads hs (λ i. h (suc i)) z
-
-pub even-plain : (hs xs : List (List ℕ)) (ss ms : List (List Float)) → Even hs xs ss ms → Plain hs xs ss ms
-even-plain hs xs ss ms E =
-    record {
-      heads = E .heads;
-      ids = E .ids;
-      shares = E .shares;
-      minima = E .minima;
-      unused = plain-heads hs (λ i. even-head hs xs ss ms E i ∙ sym (even-row hs xs ss ms E i));
-    }
-
-pub plain-even : (hs xs : List (List ℕ)) (ss ms : List (List Float)) → Plain hs xs ss ms → anyOf overHead hs ≡ false → Even hs xs ss ms
-plain-even hs xs ss ms P e = record { heads = P .heads; ids = P .ids; shares = P .shares; minima = P .minima; whole = e }
-
 -- one list that is too wide is enough
-or-true : (b : Bool) → (b || true) ≡ true
-or-true true = refl
-or-true false = refl
-
 pub wide-set : (ns : List Node) (i : ℕ) (n : Node) → i < length ns → wideNode n ≡ true → anyOf wideNode (set ns i n) ≡ true
 unfolding anyOf
 wide-set [] i n h e = absurd (omega arith)
@@ -110,13 +87,8 @@ module _ (a : Arena) (size : length (a .nodes) ≡ 64) where
   pub has-room : (k e : ℕ) → e ≡ getD free k 64 → e < 64 → ltb (length free) (suc k) ≡ false
   has-room k e q h = le-ltb (length free) (suc k) (let g = get-below free k (omega arith) in omega arith)
 
-  all-drop : (xs : List ℕ) → All (λ i. i < 64) xs → (k : ℕ) → All (λ i. i < 64) (drop k xs)
-  all-drop xs a zero = a
-  all-drop [] a (suc k) = tt
-  all-drop (x ∷ xs) a (suc k) = all-drop xs (a .1) k
-
   pub free-inside : (k : ℕ) → All (λ i. i < 64) (drop k free)
-  free-inside k = all-drop free (slots-inside (a .nodes) size) k
+  free-inside k = all-drop (λ i. i < 64) free (slots-inside (a .nodes) size) k
 
   first-drop : (xs : List ℕ) (k : ℕ) → getD xs k 64 ≡ firstOf (drop k xs)
   first-drop [] zero = refl

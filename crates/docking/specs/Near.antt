@@ -19,6 +19,7 @@ use Rattle.rules.specs.declared.model.Axis.{Axis}
 use Rattle.rules.specs.declared.refusal.Refusal.{Refusal}
 use Rattle.rules.specs.declared.refusal.Refusal.the-variants.{InvalidTileId, InvalidOperation}
 use Rattle.forest.specs.Lists.{All, never}
+use Rattle.forest.specs.Nodes.{empty-is}
 use Rattle.nodes.specs.Find.{parentFrom, scanParent, isSplit, Stands}
 use Rattle.docking.specs.Trees.{reading-like}
 
@@ -117,12 +118,6 @@ alike-removed ns (inTabs g i) (s, h) = alike-set ns ns (alike-self ns) (g .slot)
 empties-by : (b : Bool) (k : ℕ) (P : ℕ → Type 0) (rest : List ℕ) → (b ≡ true → P k) → All P rest → All P (emptyBy b k rest)
 empties-by true k P rest f a = (f refl, a)
 empties-by false k P rest f a = a
-
-empty-is : (n : Node) → isEmpty n ≡ true → n ≡ empty
-empty-is empty e = refl
-empty-is (pane p) e = never (sym e)
-empty-is (tabs b a ps) e = never (sym e)
-empty-is (split a cs ss ms) e = never (sym e)
 
 empties-all : (ns ms : List Node) (k : ℕ) → ((j : ℕ) → getD ms j empty ≡ getD ns (k + j) empty) → All (λ i. getD ns i empty ≡ empty) (emptyFrom k ms)
 unfolding emptyFrom

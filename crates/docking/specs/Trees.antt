@@ -20,7 +20,8 @@ use Rattle.forest.specs.Again.{heads, leafy-kids}
 use Rattle.forest.specs.SoundCases.{Plain, sound-cases}
 use Rattle.forest.specs.Settled.{Lone, Settled, slots, occupied-in}
 use Rattle.forest.specs.Reach.{occupied-reached, read-once, tidy-panes, panes-once}
-use Rattle.forest.specs.Quiet.{plainNode, plainNodes}
+use Rattle.forest.specs.Quiet.{plainNode, plainNodes, kids-plain, panes-plain}
+use Rattle.forest.specs.Nodes.{parent-full}
 use Rattle.nodes.specs.Find.{OneTree}
 
 -- ---- a tile of a forest has one parent
@@ -111,12 +112,6 @@ module _ (ns : List Node) where
 
 -- ---- settled slots hold one tree
 
-kids-full : (n : Node) (t : ℕ) → Member t (slots (kidsOf n)) → isEmpty n ≡ false
-kids-full empty t m = absurd m
-kids-full (pane p) t m = absurd m
-kids-full (tabs b a ps) t m = absurd m
-kids-full (split a cs ss ms) t m = refl
-
 full-occupied : (b : Bool) → b ≡ false → T (not b)
 full-occupied true e = never e
 full-occupied false e = tt
@@ -134,7 +129,7 @@ settled-tree ns r (inl (l, T)) =
       size = T .size;
       covers = λ i e. read-once ns r 0 (inl (l, T)) .1 i .1 (occupied-reached ns r 0 (inl (l, T)) i .0 (full-occupied (isEmpty (getD ns i empty)) e));
       panes = panes-once ns r 0 (inl (l, T));
-      parents = λ i j t m n. one-parent ns (stem l) (T .held) (T .apart) i j t (occupied-in ns r l T i (kids-full (getD ns i empty) t m)) (occupied-in ns r l T j (kids-full (getD ns j empty) t n)) m n;
+      parents = λ i j t m n. one-parent ns (stem l) (T .held) (T .apart) i j t (occupied-in ns r l T i (parent-full (getD ns i empty) t m)) (occupied-in ns r l T j (parent-full (getD ns j empty) t n)) m n;
     }
 settled-tree ns r (inr L) =
     record {
@@ -187,18 +182,6 @@ settled-room ns r (inl (branch i a c, T)) h =
     absurd (omega (arith, ap length (tidy-panes ns r 0 (branch i a c) T), length-append (shown c) [], many-shown ns c (T .held .1), T .held .0 .two))
 
 -- ---- and so do slots that differ from them by the sign of a minimum's zero
-
-kids-plain : (n : Node) → kidsOf (plainNode n) ≡ kidsOf n
-kids-plain empty = refl
-kids-plain (pane p) = refl
-kids-plain (tabs b a ps) = refl
-kids-plain (split a cs ss ms) = refl
-
-panes-plain : (n : Node) → panesOf (plainNode n) ≡ panesOf n
-panes-plain empty = refl
-panes-plain (pane p) = refl
-panes-plain (tabs b a ps) = refl
-panes-plain (split a cs ss ms) = refl
 
 empty-plain : (n : Node) → isEmpty (plainNode n) ≡ isEmpty n
 empty-plain empty = refl

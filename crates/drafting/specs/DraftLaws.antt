@@ -1,14 +1,14 @@
 -- The draft, by each test of the code. Assumes nothing.
 use mathlib.Core.Path.{_≡_, refl, sym, ap, _∙_}
 use mathlib.Core.Bool.{Bool, true, false}
-use mathlib.Core.List.{List, [], _∷_, map}
+use mathlib.Core.List.{List, []}
 use mathlib.Core.Option.{Option, none, some}
-use Prim.Native.Nat.{ℕ, suc, _≤_, _<_}
+use Prim.Native.Nat.{ℕ, _≤_, _<_}
 use native.Mathlib.Omega.{arith}
 use borrow.Author.Tests.{lt-ltb, le-ltb}
 use lib.Dec.{ltb}
 use lib.Ieee.{Float}
-use lib.ListN.{length, getD}
+use lib.ListN.{length}
 use Rattle.rules.specs.Lists.{anyOf}
 use Rattle.rules.specs.Tree.{Arena, arena, tile}
 use Rattle.rules.specs.Table.{readTable}
@@ -17,9 +17,9 @@ use Rattle.rules.specs.declared.refusal.Answer.the-variants.{Accepted, Refused}
 use Rattle.rules.specs.declared.refusal.Refusal.{Refusal}
 use Rattle.rules.specs.declared.refusal.Refusal.the-variants.{BadTable, ArenaFull, TooWide}
 use Rattle.columns.specs.Columns.{nodesFrom}
-use Rattle.columns.specs.Pack.{overHead, overOf, Even}
+use Rattle.columns.specs.Pack.{overHead, overOf}
 use Rattle.columns.specs.OverLaws.{any-alike}
-use Rattle.columns.specs.RowLaws.{even-head, even-row}
+use Rattle.columns.specs.RowLaws.{even-plain}
 use Rattle.columns.specs.Shown.{arenaFrom, Plain}
 use Rattle.table.specs.Rows.{rowFrom, rowsAt, tableOf, Tabled}
 use Rattle.checks.specs.Entries.{length-entries}
@@ -31,25 +31,16 @@ use Rattle.table.specs.declared.sections.Places.{Places}
 
 -- ---- the built tree
 
--- heads with no length over 16 have none that their kind uses
-alike : (hs : List (List ℕ)) → ((i : ℕ) → overHead (getD hs i []) ≡ false) → ((i : ℕ) → overOf (getD hs i []) ≡ false) → map overHead hs ≡ map overOf hs
-alike [] f g = refl
-alike (h ∷ hs) f g = λ j. (f 0 ∙ sym (g 0)) j ∷ alike hs (λ i. f (suc i)) (λ i. g (suc i)) j
-
-even-plain : (hs xs : List (List ℕ)) (ss ms : List (List Float)) → Even hs xs ss ms → Plain hs xs ss ms
-even-plain hs xs ss ms E =
-    record { heads = E .heads; ids = E .ids; shares = E .shares; minima = E .minima; unused = alike hs (even-head hs xs ss ms E) (even-row hs xs ss ms E) }
+rows-size : (bs : List ℕ) (t : Places) → length (tableOf bs t .rows) ≡ t .«row_count»
+rows-size bs t = length-entries bs (t .rows) (t .«row_count») rowFrom
 
 module _ (bs : List ℕ) (t : Places) (w : Passed bs t) where
-  rows-size : length (tableOf bs t .rows) ≡ t .«row_count»
-  rows-size = length-entries bs (t .rows) (t .«row_count») rowFrom
-
   pub ready : (kids : List ℕ) → length kids ≡ 1024 → Ready bs t kids 0
   ready kids e = record { placed = w .tabled .placed; few = w .few; narrow = w .narrow; within = omega arith; size = e }
 
   pub slotted : (kids₀ kids : List ℕ) (end : ℕ) → Pushed (rowsAt bs t) kids₀ kids 0 end → Slotted bs t kids end
   slotted kids₀ kids end p =
-      let s : length (tableOf bs t .rows) ≡ t .«row_count» = rows-size in
+      let s : length (tableOf bs t .rows) ≡ t .«row_count» = rows-size bs t in
       let h : end ≤ length (tableOf bs t .rows) = p .high in
       record {
         placed = w .tabled .placed;
@@ -89,19 +80,16 @@ unfolding draftOf
 draft-bad bs e = sym (ap draftTabled e)
 
 module _ (bs : List ℕ) (t : Places) (w : Tabled bs t) where
-  size : length (tableOf bs t .rows) ≡ t .«row_count»
-  size = length-entries bs (t .rows) (t .«row_count») rowFrom
-
   one : draftOf bs ≡ draftWithin (ltb 64 (length (tableOf bs t .rows))) (tableOf bs t)
   unfolding draftOf
   one = ap draftTabled (w .read)
 
   pub draft-full : 64 < t .«row_count» → refusedSpec ArenaFull ≡ draftOf bs
-  draft-full h = sym (one ∙ ap (λ (b : Bool). draftWithin b (tableOf bs t)) (lt-ltb 64 (length (tableOf bs t .rows)) (omega (arith, size))))
+  draft-full h = sym (one ∙ ap (λ (b : Bool). draftWithin b (tableOf bs t)) (lt-ltb 64 (length (tableOf bs t .rows)) (omega (arith, (rows-size bs t)))))
 
   module _ (h : t .«row_count» ≤ 64) where
     two : draftOf bs ≡ draftNarrow (anyOf wideRow (tableOf bs t .rows)) (tableOf bs t)
-    two = one ∙ ap (λ (b : Bool). draftWithin b (tableOf bs t)) (le-ltb 64 (length (tableOf bs t .rows)) (omega (arith, size)))
+    two = one ∙ ap (λ (b : Bool). draftWithin b (tableOf bs t)) (le-ltb 64 (length (tableOf bs t .rows)) (omega (arith, (rows-size bs t))))
 
     pub draft-wide : true ≡ anyOf wideRow (tableOf bs t .rows) → refusedSpec TooWide ≡ draftOf bs
     draft-wide e = ap (λ (b : Bool). draftNarrow b (tableOf bs t)) e ∙ sym two

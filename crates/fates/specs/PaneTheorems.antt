@@ -21,9 +21,9 @@ use Rattle.rules.specs.declared.model.Axis.{Axis}
 use Rattle.rules.specs.declared.model.Placement.{Placement}
 use Rattle.rules.specs.declared.operation.TileOp.{TileOp}
 use Rattle.rules.specs.declared.operation.TileOp.the-variants.{ActivatePane, ClosePane, SplitPane, MovePane, ReorderTab}
-use Rattle.rules.specs.declared.refusal.Answer.the-variants.{Accepted, Refused}
-use Rattle.rules.specs.declared.refusal.Refusal.{Refusal}
+use Rattle.rules.specs.declared.refusal.Answer.the-variants.{Accepted}
 use Rattle.forest.specs.Lists.{All, all-map, all-append, all-member, member-cases}
+use Rattle.forest.specs.Answers.{refused-not}
 use Rattle.forest.specs.Settled.{slots}
 use Rattle.forest.specs.Stays.{Shown, panes-full, kids-full, full-inside, panes-reached}
 use Rattle.nodes.specs.Find.{OneTree, along-in}
@@ -80,9 +80,6 @@ module _ (a : Arena) (size : length (a .nodes) ≡ 64) where
     slot-has p (i, m) = along-in (a .nodes) p (readingFrom (a .nodes) (a .root)) i (O .covers i (panes-full (getD (a .nodes) i empty) p m)) m
 
 -- ---- a call that is accepted
-
-refused-not : {A : Type 0} {e : Refusal} → Refused e ≡ Accepted → A
-refused-not q = absurd (let z : _≡_ {A = ℕ} 0 1 = cc in omega arith)
 
 -- a change that is accepted: there were slots enough, and the tree is what the repair made
 record Made (a : Arena) (c : Change) (r : Applied) : Type 0 where

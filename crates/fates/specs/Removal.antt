@@ -86,7 +86,7 @@ module _ (ns : List Node) (p : ℕ) where
 
   module _ (r : TileId) (O : OneTree ns r) where
     -- it stands in one slot
-    one-slot : (i j : ℕ) → Member p (panesOf (getD ns i empty)) → Member p (panesOf (getD ns j empty)) → i ≡ j
+    pub one-slot : (i j : ℕ) → Member p (panesOf (getD ns i empty)) → Member p (panesOf (getD ns j empty)) → i ≡ j
     one-slot i j m n =
         pane-once ns p (readingFrom ns r) (O .panes) i j (O .covers i (panes-full (getD ns i empty) p m)) (O .covers j (panes-full (getD ns j empty) p n)) m n
 

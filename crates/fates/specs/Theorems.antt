@@ -5,8 +5,7 @@ use mathlib.Core.Logic.{_⊎_, inl, inr, _↔_}
 use mathlib.Core.Bool.{Bool, true, false}
 use mathlib.Core.List.{List, [], _∷_}
 use mathlib.Core.Option.{Option, none, some}
-use Prim.Native.Nat.{ℕ, zero, suc, _<_}
-use native.Mathlib.Omega.{arith}
+use Prim.Native.Nat.{ℕ, suc, _<_}
 use lib.Dec.{ltb, leb, eqb}
 use lib.ListN.{length, getElem?, drop, length-set}
 use lib.Ieee.{Float}
@@ -30,10 +29,11 @@ use Rattle.rules.specs.declared.operation.DockTarget.{DockTarget}
 use Rattle.rules.specs.declared.operation.DockTarget.the-variants.{Root, Split, TabInto}
 use Rattle.rules.specs.declared.operation.TileOp.{TileOp}
 use Rattle.rules.specs.declared.operation.TileOp.the-variants.{ActivatePane, ClosePane, SplitPane, MovePane, ReorderTab}
-use Rattle.rules.specs.declared.refusal.Answer.the-variants.{Accepted, Refused}
+use Rattle.rules.specs.declared.refusal.Answer.the-variants.{Accepted}
 use Rattle.rules.specs.declared.refusal.Refusal.{Refusal}
 use Rattle.rules.specs.declared.refusal.Refusal.the-variants.{ArenaFull, TooWide, NotSound, RevisionExhausted}
-use Rattle.forest.specs.Lists.{All}
+use Rattle.forest.specs.Lists.{All, all-drop}
+use Rattle.forest.specs.Answers.{refused-not}
 use Rattle.forest.specs.Settled.{settled}
 use Rattle.forest.specs.Soundness.{Finished, finished-sound, finished-reached, slots-inside}
 use Rattle.docking.specs.Steps.{applied}
@@ -55,11 +55,6 @@ module _ (a : Arena) (size : length (a .nodes) ≡ 64) where
 
   free-all : All (λ i. i < 64) (emptySlots (a .nodes))
   free-all = slots-inside (a .nodes) size
-
-  all-drop : (xs : List ℕ) → All (λ i. i < 64) xs → (k : ℕ) → All (λ i. i < 64) (drop k xs)
-  all-drop xs h zero = h
-  all-drop [] h (suc k) = tt
-  all-drop (x ∷ xs) h (suc k) = all-drop xs (h .1) k
 
   shape-only : (ns : List Node) → Whole ns → Shape (changeOnly a ns)
   shape-only ns h = (h, free-all)
@@ -92,7 +87,7 @@ module _ (a : Arena) (size : length (a .nodes) ≡ 64) where
       let f = draft (d .root) (setNode (taken 0 a) new (d .nodes)) in
       shape-else (refusedNear b d) (change (insertTileNear b (taken 0 a) (taken 1 a) f) (neededNear b d) (drop (neededNear b d) (emptySlots (a .nodes)))) (
         inserted-whole (sameAxisParent (b .axis) (parentOf b f) (f .nodes)) b (taken 0 a) (taken 1 a) (parentOf b f) f (set-whole (taken 0 a) new (d .nodes) h),
-        all-drop (emptySlots (a .nodes)) free-all (neededNear b d),
+        all-drop (λ i. i < 64) (emptySlots (a .nodes)) free-all (neededNear b d),
       )
 
   activate-shape : (l : PaneLocation) → Shape (Rule.activateAt l a)
@@ -235,9 +230,6 @@ module _ (a : Arena) (size : length (a .nodes) ≡ 64) where
   unfolding apply
   accepted-sound op e = go (sound a) refl e
     where
-      refused-not : {A : Type 0} {f : Refusal} → Refused f ≡ Accepted → A
-      refused-not q = absurd (let z : _≡_ {A = ℕ} 0 1 = cc in omega arith)
-
       go : (b : Bool) → sound a ≡ b → applyBy b a op .answer ≡ Accepted → sound (applyBy b a op .tree) ≡ true
       go true s q = subst (λ (c : Bool). sound (applyBy c a op .tree) ≡ true) s (apply-sound op s)
       go false s q = refused-not q

@@ -9,23 +9,23 @@ use Prim.Native.Nat.{ℕ, zero, suc, _+_, _-_, _≤_, _<_}
 use native.Mathlib.Omega.{arith}
 use native.Mathlib.Nat.{not-suc-le-zero, le-of-suc-le-suc}
 use borrow.Author.Tests.{lt-leb, eq-eqb, ne-eqb}
-use lib.Dec.{leb, eqb}
+use lib.Dec.{eqb}
 use lib.ListN.{length, getD, getElem?, set, length-append}
 use lib.Seq.{getD-set-other, set-getD}
 use lib.Ieee.{Float}
 use Rattle.rules.specs.Numbers.{zero-f}
-use Rattle.rules.specs.Lists.{contains, positionFrom}
-use Rattle.rules.specs.Tree.{Node, empty, pane, tabs, split, nodeAt, setNode, kidsOf, reading}
-use Rattle.rules.specs.Shares.{repairedShares, eqReals}
-use Rattle.rules.specs.Minima.{alignedConstraints, compactConstraints}
-use Rattle.rules.specs.Repair.{State, Work, Out, state, work, out, noteIf, store, claim, see, paneBy, Sifted, sifted, siftBy, retain, activeOf, orFirst, groupLeft, groupDone, groupStep, Entry, entry, entries, Run, run, melts, placeBy, placeOut, kidsFrom, childrenOf, sharesOf, minimaOf, keptSplit, splitLeft, splitDone, splitNoted, splitStep, byNode, byRange, byClaimed, tileStep, normalizeNode}
+use Rattle.rules.specs.Lists.{positionFrom}
+use Rattle.rules.specs.Tree.{Node, empty, pane, tabs, split, nodeAt, kidsOf, reading}
+use Rattle.rules.specs.Shares.{repairedShares}
+use Rattle.rules.specs.Minima.{compactConstraints}
+use Rattle.rules.specs.Repair.{State, Work, Out, state, work, out, noteIf, claim, paneBy, Sifted, sifted, siftBy, retain, activeOf, orFirst, groupLeft, groupStep, Entry, entry, entries, Run, run, melts, placeBy, placeOut, kidsFrom, childrenOf, sharesOf, minimaOf, keptSplit, splitDone, splitNoted, splitStep, byNode, byRange, byClaimed, tileStep, normalizeNode}
 use Rattle.rules.specs.declared.model.TileId.{TileId}
 use Rattle.rules.specs.declared.model.Axis.{Axis}
 use Rattle.rules.specs.declared.model.TabBarPlacement.{TabBarPlacement}
 use Rattle.rules.specs.declared.model.RepairAction.the-variants.{RepairedActiveTab, RepairedShares, RepairedConstraints}
-use Rattle.forest.specs.Lists.{All, Distinct, all-map, all-both, all-left, all-right, all-getD, false-contains, distinct-left, distinct-right, distinct-apart, marked, marked-append, marked-other}
+use Rattle.forest.specs.Lists.{All, Distinct, all-both, all-left, all-right, all-getD, false-contains, distinct-left, distinct-right, distinct-apart, marked, marked-append, marked-other}
 use Rattle.forest.specs.Codec.{stored, Shared, Least, long-children, shares-back, minima-back, read-back, shares-equal, minima-equal}
-use Rattle.forest.specs.Forest.{Forest, nil, leaf, node, roots, tiles, shown, Leafy, IsLeaf, IsSplit, Set, Fine, fine-shared, fine-least, Holds}
+use Rattle.forest.specs.Forest.{Forest, nil, leaf, node, roots, tiles, shown, Leafy, IsLeaf, IsSplit, Fine, fine-shared, fine-least, Holds}
 
 pub record Ready (w : State) (f : Forest) : Type 0 where
   pub holds : Holds (w .nodes) f
@@ -56,10 +56,15 @@ retain-same i (p ∷ ps) s d =
     ∙ retain-same i ps t (rw (append-assoc (v .panes) (p ∷ []) ps) d)
     ∙ (λ z. sifted (append-assoc (s .list) (p ∷ []) ps z) (work (state (v .nodes) (v .claimed) (append-assoc (v .panes) (p ∷ []) ps z)) (s .left .actions)))
 
-element-at : (xs : List ℕ) (n : ℕ) → n < length xs → getElem? xs n ≡ some (getD xs n 0)
+pub element-at : (xs : List ℕ) (n : ℕ) → n < length xs → getElem? xs n ≡ some (getD xs n 0)
 element-at [] n h = absurd (not-suc-le-zero h)
 element-at (x ∷ xs) zero h = refl
 element-at (x ∷ xs) (suc n) h = element-at xs n (le-of-suc-le-suc h)
+
+pub element-past : (xs : List ℕ) (n : ℕ) → length xs ≤ n → getElem? xs n ≡ none
+element-past [] n h = refl
+element-past (x ∷ xs) zero h = absurd (not-suc-le-zero h)
+element-past (x ∷ xs) (suc n) h = element-past xs n (le-of-suc-le-suc h)
 
 position-same : (ys : List ℕ) (n a : ℕ) → a < length ys → Distinct ys → positionFrom n (eqb (getD ys a 0)) ys ≡ some (n + a)
 unfolding positionFrom

@@ -1,6 +1,6 @@
--- Laws of or, for every crate. Assumes nothing.
-use mathlib.Core.Path.{_≡_, refl, ap}
-use mathlib.Core.Bool.{Bool, true, false, _||_}
+-- Laws of or and of and, for every crate. Assumes nothing.
+use mathlib.Core.Path.{_≡_, refl, sym, ap}
+use mathlib.Core.Bool.{Bool, true, false, _&&_, _||_}
 use Rattle.forest.specs.Lists.{never}
 
 pub or-left : (a b : Bool) → (a || b) ≡ false → a ≡ false
@@ -17,3 +17,7 @@ true-left a b e = ap (λ (c : Bool). c || b) e
 pub true-right : (a b : Bool) → b ≡ true → (a || b) ≡ true
 true-right true b e = refl
 true-right false b e = e
+
+pub and-both : (a b : Bool) → (a && b) ≡ true → (a ≡ true) × (b ≡ true)
+and-both true b e = (refl, e)
+and-both false b e = never (sym e)

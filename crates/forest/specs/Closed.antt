@@ -19,11 +19,11 @@ use Rattle.rules.specs.Repair.{State, Work, Out, state, claim, paneBy, Sifted, 
 use Rattle.rules.specs.declared.model.TileId.{TileId}
 use Rattle.rules.specs.declared.model.Axis.{Axis}
 use Rattle.forest.specs.Lists.{All, never, all-map, all-member, member-all, member-left, member-right, member-cases, free, free-set, set-mono, set-back}
-use Rattle.forest.specs.Mended.{aligned-length}
-use Rattle.forest.specs.Codec.{Least, start-least}
+use Rattle.forest.specs.Lengths.{repaired-length, aligned-length}
+use Rattle.forest.specs.Codec.{Least, start-least, entries-children}
 use Rattle.forest.specs.Forest.{Forest, Same}
 use Rattle.forest.specs.Grow.{Good, Grown, Works, back, good-after, retained, kid-keeps, tile-keeps}
-use Rattle.forest.specs.Kept.{Alike, place-alike, split-alike, group-alike, repaired-length, entries-children}
+use Rattle.forest.specs.Kept.{Alike, place-alike, split-alike, group-alike}
 
 -- ---- what is told of a walk over the slots ns
 

@@ -1,8 +1,9 @@
 -- A split's children with their shares and minima: as they are stored in the slot, and as the walk reads them. Assumes nothing.
-use mathlib.Core.Path.{_≡_, refl, sym, ap, _∙_}
+use mathlib.Core.Path.{_≡_, refl, ap, _∙_}
 use mathlib.Core.Bool.{true}
-use mathlib.Core.List.{List, [], _∷_, _++_, map}
-use Prim.Native.Nat.{ℕ, zero, suc}
+use mathlib.Core.List.{List, [], _∷_, map}
+use Prim.Native.Nat.{ℕ, suc}
+use native.Mathlib.Omega.{arith}
 use lib.ListN.{length}
 use lib.Ieee.{Float, eq}
 use Rattle.rules.specs.Tree.{Node, split}
@@ -55,6 +56,30 @@ entries-back [] = refl
 entries-back (e ∷ es) = ap (λ (l : List Entry). e ∷ l) (entries-back es)
 
 -- the shares and minima that the walk reads off a stored list
+-- the lists that entries were made of
+pub entries-children : (cs : List TileId) (ss ms : List Float) → length ss ≡ length cs → length ms ≡ length cs → childrenOf (entries cs ss ms) ≡ cs
+unfolding entries
+entries-children [] ss ms p q = refl
+entries-children (c ∷ cs) [] ms p q = absurd (omega arith)
+entries-children (c ∷ cs) (x ∷ ss) [] p q = absurd (omega arith)
+entries-children (c ∷ cs) (x ∷ ss) (m ∷ ms) p q = ap (λ (l : List TileId). c ∷ l) (entries-children cs ss ms (omega arith) (omega arith))
+
+pub entries-shares : (cs : List TileId) (ss ms : List Float) → length ss ≡ length cs → length ms ≡ length cs → sharesOf (entries cs ss ms) ≡ ss
+unfolding entries
+entries-shares [] [] ms p q = refl
+entries-shares [] (x ∷ ss) ms p q = absurd (omega arith)
+entries-shares (c ∷ cs) [] ms p q = refl
+entries-shares (c ∷ cs) (x ∷ ss) [] p q = absurd (omega arith)
+entries-shares (c ∷ cs) (x ∷ ss) (m ∷ ms) p q = ap (λ (l : List Float). x ∷ l) (entries-shares cs ss ms (omega arith) (omega arith))
+
+pub entries-minima : (cs : List TileId) (ss ms : List Float) → length ss ≡ length cs → length ms ≡ length cs → minimaOf (entries cs ss ms) ≡ ms
+unfolding entries
+entries-minima [] ss [] p q = refl
+entries-minima [] ss (m ∷ ms) p q = absurd (omega arith)
+entries-minima (c ∷ cs) [] ms p q = absurd (omega arith)
+entries-minima (c ∷ cs) (x ∷ ss) [] p q = refl
+entries-minima (c ∷ cs) (x ∷ ss) (m ∷ ms) p q = ap (λ (l : List Float). m ∷ l) (entries-minima cs ss ms (omega arith) (omega arith))
+
 pub shares-back : (es : List Entry) → All Shared es → repairedShares (length (childrenOf es)) (sharesOf es) ≡ sharesOf es
 shares-back es s = rw (← long-shares es) (shares-mended (sharesOf es) ∙ shares-same (sharesOf es) (shared-all es s))
 

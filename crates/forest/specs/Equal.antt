@@ -1,28 +1,21 @@
 -- Lists that the Rust's `==` finds equal to their repaired selves are their repaired selves, but for a minimum's minus zero. Assumes nothing.
 use mathlib.Core.Path.{_≡_, refl, sym, ap, subst, _∙_}
-use mathlib.Core.Logic.{_⊎_, inl, inr}
-use mathlib.Core.Bool.{Bool, true, false, _&&_, _||_, cond, Bool·beq}
+use mathlib.Core.Bool.{Bool, true, false, _&&_, _||_, cond}
 use mathlib.Core.List.{List, [], _∷_, map}
-use Prim.Native.Nat.{ℕ, zero, suc, _+_, _*_, _≤_, _<_}
+use Prim.Native.Nat.{ℕ, zero, suc, _*_, _<_}
 use native.Mathlib.Omega.{arith}
-use native.Mathlib.Nat.{suc-inj}
 use borrow.Author.Tests.{eqb-true, eqb-false, eq-eqb, lt-ltb}
-use lib.Dec.{eqb, ltb}
-use lib.IntN.{ℤ, pos, negsuc}
-use lib.ListN.{length, replicate, length-replicate}
-use lib.Pow.{pow-pos}
-use lib.Ieee.{Float, nan, inf, fin, eq, lt, le, up, down, isNan}
+use lib.Dec.{eqb}
+use lib.ListN.{length, length-replicate}
+use lib.Ieee.{Float, nan, inf, fin, eq, lt, up, down, isNan}
 use lib.Ieee.Fits.{down-pos}
 use Rattle.rules.specs.Numbers.{zero-f, one-f, plus, minimumOk, shareOk, sameReal}
-use Rattle.rules.specs.Lists.{anyOf, sameList}
-use Rattle.rules.specs.Shares.{fixShare, ones, mendedBy, repairedShares, repairedBy, eqReals}
+use Rattle.rules.specs.Lists.{sameList}
+use Rattle.rules.specs.Shares.{fixShare, ones, repairedShares, repairedBy, eqReals}
 use Rattle.rules.specs.Minima.{fixMinimum, alignedConstraints, compactConstraints, compactCons, compactBy}
 use Rattle.forest.specs.Lists.{never}
+use Rattle.forest.specs.Bools.{and-both}
 use Rattle.forest.specs.Mended.{shares-mended, sameReal-self}
-
-pub and-both : (a b : Bool) → (a && b) ≡ true → (a ≡ true) × (b ≡ true)
-and-both true b e = (refl, e)
-and-both false b e = never (sym e)
 
 -- ---- a number that equals one is a good share
 
@@ -126,7 +119,7 @@ minima-kept (suc n) (m ∷ ms) e = go (compactConstraints (alignedConstraints n 
 
 -- ---- and so the same, a zero's sign aside
 
-zero-flip : (x : Float) → eq x zero-f ≡ true → eq zero-f x ≡ true
+pub zero-flip : (x : Float) → eq x zero-f ≡ true → eq zero-f x ≡ true
 unfolding eq
 zero-flip nan e = never (sym e)
 zero-flip (inf s) e = never (sym e)

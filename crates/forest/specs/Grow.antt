@@ -2,7 +2,7 @@
 -- Assumes nothing.
 use mathlib.Core.Path.{_≡_, refl, sym, ap, subst, _∙_}
 use mathlib.Core.Logic.{_≢_}
-use mathlib.Core.Bool.{Bool, true, false, not, _&&_, _||_, or-false}
+use mathlib.Core.Bool.{Bool, true, false, not, _||_, or-false}
 use mathlib.Core.List.{List, [], _∷_, _++_, map, append-assoc, append-nil}
 use mathlib.Core.Option.{Option, none, some}
 use Prim.Native.Nat.{ℕ, zero, suc, _+_, _≤_, _<_}
@@ -14,18 +14,19 @@ use lib.Seq.{getD-set-same, getD-set-other}
 use lib.Ieee.{Float, binary64, mul, eq}
 use Rattle.rules.specs.Numbers.{zero-f}
 use Rattle.rules.specs.Lists.{contains, firstBy, positionFrom}
-use Rattle.rules.specs.Tree.{Node, empty, pane, tabs, split, nodeAt, sameAxis, axisCode}
+use Rattle.rules.specs.Tree.{Node, empty, pane, tabs, split, nodeAt, sameAxis}
 use Rattle.rules.specs.Shares.{fixShare, repairedShares}
 use Rattle.rules.specs.Minima.{alignedConstraints, compactConstraints}
-use Rattle.rules.specs.Repair.{State, Work, Out, state, work, out, note, noteIf, store, clear, claim, see, gone, paneBy, paneStep, Sifted, sifted, siftBy, retain, orFirst, activeOf, groupDone, groupLeft, groupStep, Entry, entry, entries, Run, run, melts, scaled, melted, placeBy, place, placeOut, kidsFrom, childrenOf, sharesOf, minimaOf, splitLeft, splitDone, splitNoted, splitStep, byNode, byClaimed, byRange, tileStep, normalizeNode}
+use Rattle.rules.specs.Repair.{State, Work, Out, state, work, claim, paneBy, Sifted, sifted, siftBy, retain, orFirst, activeOf, groupLeft, groupStep, Entry, entries, Run, run, melts, scaled, melted, placeBy, place, placeOut, kidsFrom, childrenOf, sharesOf, minimaOf, splitDone, splitNoted, splitStep, byNode, byClaimed, byRange, tileStep, normalizeNode}
 use Rattle.rules.specs.declared.model.TileId.{TileId}
 use Rattle.rules.specs.declared.model.Axis.{Axis}
 use Rattle.rules.specs.declared.model.Axis.the-variants.{Horizontal, Vertical}
 use Rattle.rules.specs.declared.model.TabBarPlacement.{TabBarPlacement}
 use Rattle.rules.specs.declared.model.RepairAction.{RepairAction}
 use Rattle.forest.specs.Lists.{All, Distinct, never, all-map, all-append, all-left, all-right, contains-false, distinct-append, free, set-mono, set-back, free-set}
+use Rattle.forest.specs.Bools.{and-both}
 use Rattle.forest.specs.Codec.{stored, reshared, Shared, Least, read-back, start-least, stored-fixed, fixed-shared}
-use Rattle.forest.specs.Forest.{Forest, nil, leaf, node, roots, tiles, shown, _⧺_, reshare, wide, broad, wide-reshare, Leafy, IsLeaf, IsSplit, Set, Fine, fine-shared, fine-least, Holds, Same, roots-append, tiles-append, shown-append, holds-append, roots-reshare, tiles-reshare, shown-reshare, holds-reshare, all-roots, set-same, holds-same}
+use Rattle.forest.specs.Forest.{Forest, nil, leaf, node, roots, tiles, shown, _⧺_, reshare, wide, broad, wide-reshare, Leafy, Set, Fine, fine-shared, fine-least, Holds, Same, roots-append, tiles-append, shown-append, holds-append, roots-reshare, tiles-reshare, shown-reshare, holds-reshare, all-roots, set-same, holds-same}
 
 abbrev pub Good : State → Type 0
 Good w = (length (w .claimed) ≡ 64) × (length (w .nodes) ≡ 64)
@@ -399,10 +400,6 @@ leafy-melts a m (pane p) ps l = refl
 leafy-melts a m (tabs b x qs) ps l = refl
 leafy-melts a m (split b cs ss ms) ps l = absurd l
 
-and-left : (a b : Bool) → (a && b) ≡ true → a ≡ true
-and-left true b e = refl
-and-left false b e = e
-
 pub axis-same : (a b : Axis) → sameAxis a b ≡ true → a ≡ b
 axis-same Horizontal Horizontal e = refl
 axis-same Horizontal Vertical e = never (sym e)
@@ -450,7 +447,7 @@ module _ (a : Axis) (e : Entry) (cl : Least e) (r : Run) (w : State) (u : Work) 
       set-same (u .state .nodes) (set (u .state .nodes) (j .slot) empty) a (roots under)
           (all-map (λ x n. getD-set-other (u .state .nodes) (j .slot) (x .child .slot) empty empty n) (roots under) (all-roots (λ k. k ≢ j .slot) under (rw (tiles-reshare (mul binary64 (e .share)) c) away)))
           (rw (roots-reshare (mul binary64 (e .share)) c)
-          (set-reshared (u .state .nodes) (mul binary64 (e .share)) y a (axis-same y a (and-left (sameAxis y a) (eq (e .minimum) zero-f) q)) (roots c) (G .holds .0 .fine))),
+          (set-reshared (u .state .nodes) (mul binary64 (e .share)) y a (axis-same y a (and-both (sameAxis y a) (eq (e .minimum) zero-f) q .0)) (roots c) (G .holds .0 .fine))),
       λ k. (λ z. ltb 16 (length (roots-reshare (mul binary64 (e .share)) c z)) || wide-reshare (mul binary64 (e .share)) c z)
           ∙ ap (λ (n : ℕ). ltb 16 n || wide c) (length-map (roots c) (reshared (mul binary64 (e .share)))) ∙ sym (or-false (broad c)) ∙ k,
     )

@@ -7,16 +7,16 @@ use mathlib.Core.List.{List, [], _∷_, _++_, append-assoc, append-nil}
 use mathlib.Core.Option.{Option, none, some}
 use Prim.Native.Nat.{ℕ, zero, suc, _+_, _≤_, _<_}
 use native.Mathlib.Omega.{arith}
-use borrow.Author.Tests.{leb-false, eqb-true}
-use lib.Dec.{leb, eqb}
-use lib.ListN.{length, getD, set, length-set, length-append, length-map, length-replicate, replicate}
+use borrow.Author.Tests.{leb-false}
+use lib.Dec.{leb}
+use lib.ListN.{length, getD, set, length-set, length-append, replicate}
 use lib.Seq.{getD-set-same, getD-set-other}
 use lib.Ieee.{Float}
-use Rattle.rules.specs.Numbers.{zero-f, one-f, shareOk}
+use Rattle.rules.specs.Numbers.{zero-f}
 use Rattle.rules.specs.Lists.{anyOf}
 use Rattle.rules.specs.Tree.{Node, empty, pane, tabs, split, nodeAt, Arena, emptySlots, wideNode}
 use Rattle.rules.specs.Target.{panesIn}
-use Rattle.rules.specs.Shares.{fixShare, mendedBy, repairedShares}
+use Rattle.rules.specs.Shares.{repairedShares}
 use Rattle.rules.specs.Shares as Shares
 use Rattle.rules.specs.Minima.{fixMinimum, alignedConstraints}
 use Rattle.rules.specs.Repair.{State, Work, Out, state, work, claim, gone, paneBy, Sifted, sifted, siftBy, retain, groupLeft, groupStep, Entry, entry, entries, Run, run, melts, placeBy, place, placeOut, kidsFrom, childrenOf, splitLeft, splitDone, splitNoted, splitStep, byNode, byClaimed, byRange, tileStep, normalizeNode, Normal, begin, normalize, repairedBy, repairedAs, repairBy, repair}
@@ -26,8 +26,9 @@ use Rattle.rules.specs.declared.model.Axis.the-variants.{Horizontal}
 use Rattle.rules.specs.declared.model.TabBarPlacement.{TabBarPlacement}
 use Rattle.rules.specs.declared.refusal.Answer.the-variants.{Accepted}
 use Rattle.forest.specs.Lists.{All, Distinct, never, all-map, all-both, all-append, all-left, all-right, member-all, distinct-left, distinct-right, distinct-apart, false-contains, free, free-set, marked, marked-append, marked-other, none-at, set-mono, set-back}
-use Rattle.forest.specs.Mended.{fixMinimum-twice, aligned-length}
-use Rattle.forest.specs.Codec.{Least, start-least}
+use Rattle.forest.specs.Mended.{fixMinimum-twice}
+use Rattle.forest.specs.Lengths.{repaired-length, aligned-length}
+use Rattle.forest.specs.Codec.{Least, start-least, entries-children}
 use Rattle.forest.specs.Forest.{Forest, Same}
 use Rattle.forest.specs.Grow.{Good, Grown, back, good-after, kid-keeps, tile-keeps}
 use Rattle.forest.specs.Again.{tile-by}
@@ -55,25 +56,6 @@ few-marked cs [] n e h o d = omega arith
 few-marked cs (x ∷ xs) n e h o d =
     let ih = few-marked (set cs x true) xs n (length-set cs x true ∙ e) (h .1) (unset cs x xs (d .0) (o .1)) (d .1) in
     let one = free-set cs x (let k = h .0 in omega (arith, e, k)) (o .0) in omega (arith, ih, one)
-
-pub repaired-length : (n : ℕ) (xs : List Float) → length (repairedShares n xs) ≡ n
-unfolding repairedShares
-repaired-length n xs = by (eqb (length xs) n) refl
-  where
-    good : (b : Bool) → length xs ≡ n → length (mendedBy b n xs) ≡ n
-    good true e = length-map xs fixShare ∙ e
-    good false e = length-replicate n one-f
-
-    by : (b : Bool) → eqb (length xs) n ≡ b → length (Shares.repairedBy b n xs) ≡ n
-    by true e = good (anyOf shareOk xs) (eqb-true (length xs) n e)
-    by false e = length-replicate n one-f
-
-pub entries-children : (cs : List TileId) (ss ms : List Float) → length ss ≡ length cs → length ms ≡ length cs → childrenOf (entries cs ss ms) ≡ cs
-unfolding entries
-entries-children [] ss ms e q = refl
-entries-children (c ∷ cs) [] ms e q = absurd (omega arith)
-entries-children (c ∷ cs) (s ∷ ss) [] e q = absurd (omega arith)
-entries-children (c ∷ cs) (s ∷ ss) (m ∷ ms) e q = ap (λ (l : List TileId). c ∷ l) (entries-children cs ss ms (omega arith) (omega arith))
 
 -- ---- what is told of a walk: which tiles were claimed, and which panes were seen
 

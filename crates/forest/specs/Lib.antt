@@ -1,5 +1,9 @@
 pub mod Lists
 pub mod Bools
+pub mod Lengths
+pub mod Answers
+pub mod Nodes
+pub mod Along
 pub mod Mended
 pub mod Codec
 pub mod Forest

@@ -2,15 +2,15 @@
 use mathlib.Core.Path.{_≡_, refl, sym, ap, subst, _∙_}
 use mathlib.Core.Logic.{_≢_, _⊎_, inl, inr}
 use mathlib.Core.Bool.{Bool, true, false, _||_}
-use mathlib.Core.List.{List, [], _∷_, _++_, append-assoc}
-use Prim.Native.Nat.{ℕ, zero, suc, _+_, _≤_, _<_}
+use mathlib.Core.List.{List, [], _∷_, _++_}
+use Prim.Native.Nat.{ℕ, zero, suc, _+_, _<_}
 use native.Mathlib.Omega.{arith}
 use native.Mathlib.Decide.{ℕ-discrete}
 use native.Mathlib.Nat.{not-suc-le-zero, le-of-suc-le-suc}
 use borrow.Author.Tests.{ne-eqb, eqb-false}
 use lib.Dec.{eqb}
-use lib.ListN.{length, getD, set, length-set, replicate}
-use lib.Seq.{getD-set-same, getD-set-other}
+use lib.ListN.{length, getD, set, replicate, drop}
+use lib.Seq.{getD-set-other}
 use Rattle.rules.specs.Lists.{anyOf, contains}
 use Rattle.rules.specs.Tree.{Member}
 
@@ -120,6 +120,11 @@ pub distinct-append : (xs ys : List ℕ) → Distinct xs → Distinct ys → Apa
 distinct-append [] ys d e a = e
 distinct-append (x ∷ xs) ys d e a =
     (all-append (λ y. y ≢ x) xs ys (d .0) (all-map (λ y k. k .0) ys a), distinct-append xs ys (d .1) e (all-map (λ y k. k .1) ys a))
+
+pub all-drop : {A : Type 0} (P : A → Type 0) (xs : List A) → All P xs → (k : ℕ) → All P (drop k xs)
+all-drop P xs h zero = h
+all-drop P [] h (suc k) = tt
+all-drop P (x ∷ xs) h (suc k) = all-drop P xs (h .1) k
 
 pub distinct-left : (xs ys : List ℕ) → Distinct (xs ++ ys) → Distinct xs
 distinct-left [] ys d = tt

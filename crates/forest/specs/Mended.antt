@@ -1,15 +1,14 @@
 -- Shares and minima that repair leaves as they are: to repair one twice is to repair it once. No law of multiplication is needed. Assumes nothing.
 use mathlib.Core.Path.{_≡_, refl, sym, ap, _∙_}
-use mathlib.Core.Bool.{Bool, true, false, _&&_, _||_, cond, Bool·beq}
+use mathlib.Core.Bool.{Bool, true, false, _||_, cond, Bool·beq}
 use mathlib.Core.List.{List, [], _∷_, map}
 use Prim.Native.Nat.{ℕ, zero, suc, _*_}
 use borrow.Author.Tests.{eq-eqb}
-use lib.Dec.{eqb}
-use lib.ListN.{length, replicate}
+use lib.ListN.{length}
 use lib.Ieee.{Float, nan, inf, fin, eq, lt, le, isNan, up, down}
 use Rattle.rules.specs.Numbers.{zero-f, one-f, plus, minimumOk, shareOk, sameReal}
 use Rattle.rules.specs.Lists.{anyOf, sameList}
-use Rattle.rules.specs.Shares.{fixShare, ones, mendedBy, repairedBy, repairedShares, eqReals}
+use Rattle.rules.specs.Shares.{fixShare, ones, mendedBy, repairedShares, eqReals}
 use Rattle.rules.specs.Minima.{fixMinimum, alignedConstraints, compactConstraints, compactCons, compactBy}
 use Rattle.forest.specs.Lists.{All, never}
 
@@ -126,12 +125,6 @@ unfolding alignedConstraints
 aligned-mended zero ms = tt
 aligned-mended (suc n) [] = (zero-fixed, aligned-mended n [])
 aligned-mended (suc n) (m ∷ ms) = (fixMinimum-twice m, aligned-mended n ms)
-
-pub aligned-length : (n : ℕ) (ms : List Float) → length (alignedConstraints n ms) ≡ n
-unfolding alignedConstraints
-aligned-length zero ms = refl
-aligned-length (suc n) [] = ap suc (aligned-length n [])
-aligned-length (suc n) (m ∷ ms) = ap suc (aligned-length n ms)
 
 aligned-cons : (n : ℕ) (m : Float) (c ms : List Float) → fixMinimum m ≡ m → alignedConstraints n c ≡ ms → alignedConstraints (suc n) (compactCons m c) ≡ m ∷ ms
 unfolding alignedConstraints

@@ -1,32 +1,31 @@
 -- A repair that lists nothing changes nothing, but that it reads a minimum's minus zero as zero. By induction on the fuel. Assumes nothing.
 use mathlib.Core.Path.{_≡_, refl, sym, ap, subst, _∙_}
-use mathlib.Core.Logic.{_≢_, _⊎_, inl, inr}
-use mathlib.Core.Bool.{Bool, true, false, not, _&&_, _||_}
+use mathlib.Core.Bool.{Bool, true, false, not, _||_}
 use mathlib.Core.List.{List, [], _∷_, _++_, map, append-assoc, append-nil}
 use mathlib.Core.Option.{Option, none, some}
-use Prim.Native.Nat.{ℕ, zero, suc, _+_, _≤_, _<_}
+use Prim.Native.Nat.{ℕ, zero, suc, _+_, _<_}
 use native.Mathlib.Omega.{arith}
 use native.Mathlib.Decide.{ℕ-discrete}
 use borrow.Author.Tests.{leb-false, eqb-true}
-use lib.Dec.{leb, eqb}
-use lib.ListN.{length, getD, getElem?, set, length-set, length-append, length-map, List·getD-map}
-use lib.Seq.{ext-getD, getD-set-same, getD-set-other, set-getD}
+use lib.Dec.{leb, eqb, ltb}
+use lib.ListN.{length, getD, getElem?, set, length-set, length-append, length-map}
+use lib.Seq.{getD-set-same, getD-set-other, set-getD}
 use lib.Ieee.{Float}
-use Rattle.rules.specs.Numbers.{plus, sameReal}
-use Rattle.rules.specs.Lists.{anyOf, contains, sameList}
+use Rattle.rules.specs.Numbers.{plus}
+use Rattle.rules.specs.Lists.{anyOf, contains, wideList}
 use Rattle.rules.specs.Shares.{repairedShares, eqReals}
 use Rattle.rules.specs.Minima.{alignedConstraints, compactConstraints}
-use Rattle.rules.specs.Tree.{Node, empty, pane, tabs, split, tile, nodeAt, isEmpty, readingFrom}
-use Rattle.rules.specs.Repair.{addedBy, added, addedIf, sameAction, State, Work, Out, state, work, out, gone, claim, see, paneBy, Sifted, sifted, siftBy, retain, activeOf, groupLeft, groupStep, Entry, entry, entries, Run, run, melts, placeBy, place, placeOut, kidsFrom, childrenOf, sharesOf, minimaOf, splitLeft, splitDone, splitNoted, splitStep, byNode, byClaimed, byRange, tileStep, normalizeNode, isReached, sweepBy, swept, sweepNote, sweepActions, Normal, sweep, rooted, begin, normalize}
+use Rattle.rules.specs.Tree.{Node, empty, pane, tabs, split, tile, nodeAt, isEmpty, kidsOf, panesOf, wideNode}
+use Rattle.rules.specs.Repair.{addedBy, added, addedIf, sameAction, State, Work, Out, state, work, claim, paneBy, Sifted, sifted, siftBy, retain, activeOf, groupLeft, groupStep, Entry, entries, Run, run, melts, placeBy, place, placeOut, kidsFrom, childrenOf, sharesOf, minimaOf, splitLeft, splitNoted, splitStep, byNode, byClaimed, byRange, tileStep, normalizeNode, isReached, sweepNote, sweepActions, sweep}
 use Rattle.rules.specs.declared.model.TileId.{TileId}
 use Rattle.rules.specs.declared.model.Axis.{Axis}
 use Rattle.rules.specs.declared.model.TabBarPlacement.{TabBarPlacement}
 use Rattle.rules.specs.declared.model.RepairAction.{RepairAction}
 use Rattle.rules.specs.declared.model.RepairAction.the-variants.{RepairedActiveTab, RepairedShares, RepairedConstraints, RemovedInvalidNode}
-use Rattle.forest.specs.Lists.{All, never, none-at}
-use Rattle.forest.specs.Mended.{aligned-length}
-use Rattle.forest.specs.Equal.{and-both, shares-kept, minima-kept}
-use Rattle.forest.specs.Codec.{Least, start-least, long-children}
+use Rattle.forest.specs.Lists.{All, never}
+use Rattle.forest.specs.Lengths.{aligned-length}
+use Rattle.forest.specs.Equal.{shares-kept, minima-kept}
+use Rattle.forest.specs.Codec.{Least, start-least, long-children, entries-children, entries-shares, entries-minima}
 use Rattle.forest.specs.Forest.{Forest}
 use Rattle.forest.specs.Grow.{Good, Grown, Works, good-after, kid-keeps, tile-keeps}
 
@@ -40,6 +39,24 @@ plainNode (split a cs ss ms) = split a cs ss (map plus ms)
 
 abbrev pub plainNodes : List Node → List Node
 plainNodes ns = map plainNode ns
+
+pub kids-plain : (n : Node) → kidsOf (plainNode n) ≡ kidsOf n
+kids-plain empty = refl
+kids-plain (pane p) = refl
+kids-plain (tabs b a ps) = refl
+kids-plain (split a cs ss ms) = refl
+
+pub panes-plain : (n : Node) → panesOf (plainNode n) ≡ panesOf n
+panes-plain empty = refl
+panes-plain (pane p) = refl
+panes-plain (tabs b a ps) = refl
+panes-plain (split a cs ss ms) = refl
+
+pub wide-plain : (n : Node) → wideNode (plainNode n) ≡ wideNode n
+wide-plain empty = refl
+wide-plain (pane p) = refl
+wide-plain (tabs b a ps) = refl
+wide-plain (split a cs ss ms) = ap (λ (k : ℕ). wideList cs || wideList ss || ltb 16 k) (length-map ms plus)
 
 -- ---- a list of actions that is empty was empty before, and nothing was added
 
@@ -282,30 +299,6 @@ module _ (again : TileId → Work → Out) (g : Works again) (k : Keeping again)
             fine false true z = refl
             fine false false z = never z
 
-    -- the lists read off a split, where they equal those that stand there
-    pub children-back : (cs : List TileId) (ss ms : List Float) → length ss ≡ length cs → length ms ≡ length cs → childrenOf (entries cs ss ms) ≡ cs
-    unfolding entries
-    children-back [] ss ms p q = refl
-    children-back (c ∷ cs) [] ms p q = absurd (omega arith)
-    children-back (c ∷ cs) (x ∷ ss) [] p q = absurd (omega arith)
-    children-back (c ∷ cs) (x ∷ ss) (m ∷ ms) p q = ap (λ (l : List TileId). c ∷ l) (children-back cs ss ms (omega arith) (omega arith))
-
-    pub shares-back : (cs : List TileId) (ss ms : List Float) → length ss ≡ length cs → length ms ≡ length cs → sharesOf (entries cs ss ms) ≡ ss
-    unfolding entries
-    shares-back [] [] ms p q = refl
-    shares-back [] (x ∷ ss) ms p q = absurd (omega arith)
-    shares-back (c ∷ cs) [] ms p q = refl
-    shares-back (c ∷ cs) (x ∷ ss) [] p q = absurd (omega arith)
-    shares-back (c ∷ cs) (x ∷ ss) (m ∷ ms) p q = ap (λ (l : List Float). x ∷ l) (shares-back cs ss ms (omega arith) (omega arith))
-
-    pub minima-back : (cs : List TileId) (ss ms : List Float) → length ss ≡ length cs → length ms ≡ length cs → minimaOf (entries cs ss ms) ≡ ms
-    unfolding entries
-    minima-back [] ss [] p q = refl
-    minima-back [] ss (m ∷ ms) p q = absurd (omega arith)
-    minima-back (c ∷ cs) [] ms p q = absurd (omega arith)
-    minima-back (c ∷ cs) (x ∷ ss) [] p q = refl
-    minima-back (c ∷ cs) (x ∷ ss) (m ∷ ms) p q = ap (λ (l : List Float). m ∷ l) (minima-back cs ss ms (omega arith) (omega arith))
-
     module _ (h : i .slot < 64) (e : getD (w .state .claimed) (i .slot) false ≡ false) where
       pub split-hushed : (a : Axis) (cs : List TileId) (ss ms : List Float) → nodeAt (w .state .nodes) i ≡ split a cs ss ms → splitStep again i a cs ss ms (claim i w) .work .actions ≡ []
           → (splitStep again i a cs ss ms (claim i w) .kept ≡ some i) × Silent (w .state) (splitStep again i a cs ss ms (claim i w) .work .state)
@@ -325,9 +318,9 @@ module _ (again : TileId → Work → Out) (g : Works again) (k : Keeping again)
           let lo : length old ≡ length cs = ap length os ∙ ls in
           let lm : length mins ≡ length cs = aligned-length (length cs) ms in
           let node-is : split a (childrenOf es) (repairedShares (length es) (sharesOf es)) (compactConstraints (minimaOf es)) ≡ plainNode (nodeAt (w .state .nodes) i) =
-          (λ z. split a (children-back cs old mins lo lm z)
-          ((ap (λ (n : ℕ). repairedShares n (sharesOf es)) (sym (long-children es) ∙ ap length (children-back cs old mins lo lm)) ∙ ap (repairedShares (length cs)) (shares-back cs old mins lo lm ∙ os) ∙ os) z)
-          ((ap compactConstraints (minima-back cs old mins lo lm) ∙ minima-kept (length cs) ms mi) z))
+          (λ z. split a (entries-children cs old mins lo lm z)
+          ((ap (λ (n : ℕ). repairedShares n (sharesOf es)) (sym (long-children es) ∙ ap length (entries-children cs old mins lo lm)) ∙ ap (repairedShares (length cs)) (entries-shares cs old mins lo lm ∙ os) ∙ os) z)
+          ((ap compactConstraints (entries-minima cs old mins lo lm) ∙ minima-kept (length cs) ms mi) z))
           ∙ ap plainNode (sym is) in (
             kept,
             subst (Silent (w .state)) (sym left)

@@ -1,24 +1,23 @@
 -- In settled slots the occupied ones are exactly those that are reached from the root, each once; and each pane stands once. Assumes nothing.
 use mathlib.Core.Path.{_≡_, refl, sym, ap, subst, _∙_}
-use mathlib.Core.Logic.{_≢_, _↔_, _⊎_, inl, inr}
+use mathlib.Core.Logic.{_↔_, _⊎_, inl, inr}
 use mathlib.Core.Bool.{Bool, true, false, not}
-use mathlib.Core.List.{List, [], _∷_, _++_, map, append-nil, append-assoc}
-use mathlib.Core.Option.{Option, none, some}
-use Prim.Native.Nat.{ℕ, zero, suc, _≤_, _<_}
+use mathlib.Core.List.{List, [], _∷_, _++_, append-assoc}
+use mathlib.Core.Option.{some}
+use Prim.Native.Nat.{ℕ}
 use native.Mathlib.Omega.{arith}
 use native.Mathlib.Decide.{ℕ-discrete}
 use lib.Dec.{T}
-use lib.ListN.{length, getD}
-use Rattle.rules.specs.Tree.{Node, empty, pane, tabs, split, Arena, arena, nodeAt, isEmpty, kidsOf, panesOf, emptyGroup, reading, readingFrom, Member, Occupied, Reached}
-use Rattle.rules.specs.Repair.{Entry, childrenOf}
+use lib.ListN.{getD}
+use Rattle.rules.specs.Tree.{Node, empty, pane, Arena, arena, nodeAt, isEmpty, kidsOf, panesOf, reading, readingFrom, Member, Occupied, Reached}
 use Rattle.rules.specs.Target.{panesAlong, panesIn}
 use Rattle.rules.specs.declared.model.TileId.{TileId}
 use Rattle.forest.specs.Lists.{All, Distinct, never, all-map, all-append, all-member, member-all, member-left, member-right, member-cases}
-use Rattle.forest.specs.Codec.{stored}
 use Rattle.forest.specs.Forest.{Forest, nil, leaf, node, roots, tiles, shown, Leafy, Holds, Full, holds-full}
 use Rattle.forest.specs.Grow.{Left, nothing, group, branch, keptOf, stem}
 use Rattle.forest.specs.Again.{names, heads, leafy-kids}
 use Rattle.forest.specs.Settled.{Tidy, Lone, Settled, slots, reads, slots-are, occupied-in}
+use Rattle.forest.specs.Nodes.{leafy-panes}
 
 -- ---- occupied, as a test and as a fact
 
@@ -130,12 +129,6 @@ module _ (ns : List Node) (r : TileId) (v : ℕ) where
       one i (inr m) = absurd m
 
   -- ---- each pane stands once
-
-  leafy-panes : (n : Node) (ps : List ℕ) → Leafy n ps → panesOf n ≡ ps
-  leafy-panes empty ps l = absurd l
-  leafy-panes (pane p) ps l = sym l
-  leafy-panes (tabs b a qs) ps l = sym (l .0)
-  leafy-panes (split a cs ss ms) ps l = absurd l
 
   along-append : (xs ys : List TileId) → panesAlong ns (xs ++ ys) ≡ panesAlong ns xs ++ panesAlong ns ys
   unfolding panesAlong

@@ -2,14 +2,14 @@
 use mathlib.Core.Path.{_≡_, refl, sym, ap, subst, _∙_}
 use mathlib.Core.Logic.{inl}
 use mathlib.Core.Bool.{Bool}
-use mathlib.Core.List.{List, [], _∷_, _++_}
+use mathlib.Core.List.{List, [], _∷_}
 use mathlib.Core.Option.{Option, none, some}
 use Prim.Native.Nat.{ℕ, _<_}
 use native.Mathlib.Omega.{arith}
 use lib.ListN.{length, getD}
 use lib.Seq.{getD-set-same}
-use Rattle.rules.specs.Tree.{Node, empty, emptyGroup, tile, nodeAt, setNode, kidsOf, panesOf, reading, readingFrom}
-use Rattle.rules.specs.Target.{panesAlong, panesIn}
+use Rattle.rules.specs.Tree.{Node, empty, emptyGroup, tile, setNode, reading, readingFrom}
+use Rattle.rules.specs.Target.{panesIn}
 use Rattle.rules.specs.Repair.{Out, sweepBy, swept, sweep, Normal, rooted, begin, normalizeNode, normalize}
 use Rattle.rules.specs.declared.model.TileId.{TileId}
 use Rattle.forest.specs.Lists.{All}
@@ -17,11 +17,7 @@ use Rattle.forest.specs.Forest.{shown}
 use Rattle.forest.specs.Grow.{Grown, Left, nothing, group, branch, keptOf, stem, tile-keeps}
 use Rattle.forest.specs.Settled.{reached-in, swept-at, fresh-reads, tidied}
 use Rattle.forest.specs.Reach.{tidy-panes}
-
--- a root that is an empty group shows nothing
-root-shows : (ns : List Node) (r : TileId) → nodeAt ns r ≡ emptyGroup → panesIn r ns ≡ []
-unfolding panesAlong reading
-root-shows ns r e = (λ z. panesAlong ns (r ∷ reading 1024 ns (kidsOf (e z) ++ []))) ∙ (λ z. panesOf (e z) ++ [])
+use Rattle.forest.specs.Nodes.{root-shows}
 
 module _ (ns : List Node) (size : length ns ≡ 64) (r : TileId) where
   abbrev o : Out

@@ -18,11 +18,12 @@ use Rattle.rules.specs.declared.model.TabBarPlacement.the-variants.{Hidden, Top
 use Rattle.forest.specs.Lists.{never}
 use Rattle.forest.specs.Grow.{nothing}
 use Rattle.forest.specs.Settled.{Lone, Settled}
-use Rattle.forest.specs.Equal.{and-both}
 use Rattle.forest.specs.Quiet.{plainNodes}
 use Rattle.forest.specs.SoundIs.{quiet-repair, sound-is}
+use Rattle.forest.specs.Nodes.{empty-is}
 use Rattle.rules.specs.Lists.{anyOf}
 use Rattle.rules.specs.Tree.{wideNode}
+use Rattle.forest.specs.Bools.{and-both}
 
 bar-hidden : (b : TabBarPlacement) → barCode b ≡ 0 → b ≡ Hidden
 bar-hidden Hidden e = refl
@@ -44,12 +45,6 @@ group-is (tabs b a ps) e =
     let (u, v) = and-both (eqb (barCode b) 0) (eqb a 0) x in
     λ z. tabs (bar-hidden b (eqb-true (barCode b) 0 u) z) (eqb-true a 0 v z) (none-same ps y z)
 group-is (split x cs ss ms) e = never (sym e)
-
-empty-is : (n : Node) → isEmpty n ≡ true → n ≡ empty
-empty-is empty e = refl
-empty-is (pane p) e = never (sym e)
-empty-is (tabs b a ps) e = never (sym e)
-empty-is (split a cs ss ms) e = never (sym e)
 
 all-empty : (ns : List Node) → allOf isEmpty ns ≡ true → (i : ℕ) → getD ns i empty ≡ empty
 unfolding allOf

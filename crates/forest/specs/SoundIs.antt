@@ -1,34 +1,30 @@
 -- An arena is sound exactly when its repair is accepted and lists nothing, or it is a lone empty root: that the tree comes back equal then follows.
 -- And a sound arena, its minima's minus zeros read as zeros, is settled. Assumes nothing.
 use mathlib.Core.Path.{_≡_, refl, sym, ap, subst, _∙_}
-use mathlib.Core.Logic.{_≢_, _⊎_, inl, inr}
 use mathlib.Core.Bool.{Bool, true, false, not, _&&_, _||_}
-use mathlib.Core.List.{List, [], _∷_, _++_, map}
+use mathlib.Core.List.{List, [], _∷_, map}
 use mathlib.Core.Option.{Option, none, some}
-use Prim.Native.Nat.{ℕ, zero, suc, _+_, _≤_, _<_}
+use Prim.Native.Nat.{ℕ, _+_}
 use native.Mathlib.Omega.{arith}
-use native.Mathlib.Decide.{ℕ-discrete}
-use borrow.Author.Tests.{eqb-true}
 use lib.Dec.{eqb}
-use lib.ListN.{length, getD, set, length-map, List·getD-map}
-use lib.Seq.{ext-getD, getD-set-other}
+use lib.ListN.{length, getD, length-map, List·getD-map}
+use lib.Seq.{ext-getD}
 use lib.Ieee.{Float}
 use Rattle.rules.specs.Numbers.{plus, sameReal}
-use Rattle.rules.specs.Lists.{anyOf, allOf, sameList}
-use Rattle.rules.specs.Tree.{Node, empty, pane, tabs, split, Arena, arena, tile, nodeAt, setNode, clearNode, isEmpty, emptySlots, emptyGroup, wideNode, readingFrom, sameTile, axisCode, barCode, sameNode, sameTree}
-use Rattle.rules.specs.Repair.{State, Work, Out, isReached, sweepBy, swept, sweepActions, Normal, sweep, rooted, begin, normalizeNode, normalize, Repaired, repairedBy, repairedAs, repairBy, repair}
-use Rattle.rules.specs.Sound.{isAccepted, isNone, untouched, loneEmptyRoot, sound}
+use Rattle.rules.specs.Lists.{anyOf, sameList}
+use Rattle.rules.specs.Tree.{Node, empty, pane, tabs, split, Arena, arena, tile, setNode, isEmpty, emptySlots, emptyGroup, wideNode, readingFrom, sameTile, axisCode, barCode, sameNode, sameTree}
+use Rattle.rules.specs.Repair.{State, Out, isReached, sweepBy, swept, sweepActions, Normal, sweep, rooted, begin, normalizeNode, normalize, repairedBy, repairedAs, repairBy, repair}
+use Rattle.rules.specs.Sound.{isAccepted, isNone, loneEmptyRoot, sound}
 use Rattle.rules.specs.declared.model.TileId.{TileId}
-use Rattle.rules.specs.declared.model.RepairAction.{RepairAction}
-use Rattle.rules.specs.declared.refusal.Answer.the-variants.{Accepted, Refused}
-use Rattle.forest.specs.Lists.{All, never, none-at}
+use Rattle.forest.specs.Lists.{never, none-at}
 use Rattle.forest.specs.Mended.{sameReal-self}
-use Rattle.forest.specs.Equal.{and-both, plus-same}
-use Rattle.forest.specs.Grow.{Good, Grown, Left, keptOf, stem, tile-keeps}
-use Rattle.forest.specs.Settled.{Lone, Settled, swept-length, swept-at, settled}
+use Rattle.forest.specs.Equal.{plus-same}
+use Rattle.forest.specs.Grow.{tile-keeps}
+use Rattle.forest.specs.Settled.{Settled, swept-length, swept-at, settled}
 use Rattle.forest.specs.Sweep.{Tells, kept-tells}
 use Rattle.forest.specs.Soundness.{list-self, number-self, tile-self, slots-inside}
 use Rattle.forest.specs.Quiet.{plainNode, plainNodes, passed, walk-hushed, sweep-grows, sweep-reached}
+use Rattle.forest.specs.Nodes.{empty-is}
 
 -- ---- a repair that lists nothing
 
@@ -70,17 +66,11 @@ module _ (ns : List Node) (size : length ns ≡ 64) (r : TileId) where
           reached = ap (λ (k : ℕ). isReached k (readingFrom (left .nodes) r) || isEmpty (getD (left .nodes) j empty)) (let q : j ≡ 0 + j = omega arith in q)
               ∙ sweep-reached (readingFrom (left .nodes) r) (left .nodes) 0 (o .work .actions) quiet j
 
-          is-empty : (n : Node) → isEmpty n ≡ true → n ≡ empty
-          is-empty empty e = refl
-          is-empty (pane p) e = never (sym e)
-          is-empty (tabs b a ps) e = never (sym e)
-          is-empty (split a cs ss ms) e = never (sym e)
-
           go : (b : Bool) → getD (left .claimed) j false ≡ b → getD (left .nodes) j empty ≡ passed false (getD (left .claimed) j false) (getD ns j empty)
               → (getD (left .claimed) j false || isEmpty (getD (left .nodes) j empty)) ≡ true → sweepBy (getD (left .claimed) j false) (getD (left .nodes) j empty) ≡ plainNode (getD ns j empty)
           go true c p t = ap (λ (b : Bool). sweepBy b (getD (left .nodes) j empty)) c ∙ p ∙ ap (λ (b : Bool). passed false b (getD ns j empty)) c
           go false c p t =
-              let e : getD (left .nodes) j empty ≡ empty = is-empty (getD (left .nodes) j empty) (ap (λ (b : Bool). b || isEmpty (getD (left .nodes) j empty)) (sym c) ∙ t) in
+              let e : getD (left .nodes) j empty ≡ empty = empty-is (getD (left .nodes) j empty) (ap (λ (b : Bool). b || isEmpty (getD (left .nodes) j empty)) (sym c) ∙ t) in
               let f : getD (left .nodes) j empty ≡ getD ns j empty = p ∙ ap (λ (b : Bool). passed false b (getD ns j empty)) c in
               ap (λ (b : Bool). sweepBy b (getD (left .nodes) j empty)) c ∙ ap plainNode (sym e ∙ f)
 

@@ -1,25 +1,25 @@
 -- Settled slots, none of them too wide, are a sound arena; and what repair accepts is settled. Assumes nothing.
 use mathlib.Core.Path.{_≡_, refl, sym, ap, subst, _∙_}
-use mathlib.Core.Logic.{_≢_, _↔_, _⊎_, inl, inr}
-use mathlib.Core.Bool.{Bool, true, false, not, _&&_, _||_}
-use mathlib.Core.List.{List, [], _∷_, _++_}
+use mathlib.Core.Logic.{_↔_, inl, inr}
+use mathlib.Core.Bool.{Bool, true, false, _&&_, _||_}
+use mathlib.Core.List.{List, [], _∷_}
 use mathlib.Core.Option.{Option, none, some}
-use Prim.Native.Nat.{ℕ, zero, suc, _+_, _≤_, _<_}
+use Prim.Native.Nat.{ℕ, suc, _+_, _≤_, _<_}
 use native.Mathlib.Omega.{arith}
 use native.Mathlib.Decide.{ℕ-discrete}
 use borrow.Author.Tests.{eq-eqb}
 use lib.Dec.{T, eqb}
-use lib.ListN.{length, getD, set, length-set}
+use lib.ListN.{length, getD}
 use lib.Seq.{getD-set-same, getD-set-other}
 use Rattle.rules.specs.Numbers.{sameReal}
 use Rattle.rules.specs.Lists.{anyOf, allOf, sameList}
-use Rattle.rules.specs.Tree.{Node, empty, pane, tabs, split, Arena, arena, nodeAt, clearNode, isEmpty, emptyBy, emptyFrom, emptySlots, emptyGroup, wideNode, sameTile, axisCode, barCode, sameNode, sameTree, Occupied, Reached}
+use Rattle.rules.specs.Tree.{Node, empty, pane, tabs, split, Arena, arena, clearNode, isEmpty, emptyBy, emptyFrom, emptySlots, emptyGroup, wideNode, sameTile, axisCode, barCode, sameNode, sameTree, Occupied, Reached}
 use Rattle.rules.specs.Repair.{Normal, normalize, Repaired, repairedBy, repairedAs, repairBy, repair}
 use Rattle.rules.specs.Sound.{untouched, loneEmptyRoot, sound}
 use Rattle.rules.specs.declared.model.TileId.{TileId}
-use Rattle.rules.specs.declared.refusal.Answer.{Answer}
-use Rattle.rules.specs.declared.refusal.Answer.the-variants.{Accepted, Refused}
-use Rattle.forest.specs.Lists.{All, never}
+use Rattle.rules.specs.declared.refusal.Answer.the-variants.{Accepted}
+use Rattle.forest.specs.Lists.{All}
+use Rattle.forest.specs.Answers.{refused-not}
 use Rattle.forest.specs.Mended.{sameReal-self}
 use Rattle.forest.specs.Grow.{Left}
 use Rattle.forest.specs.Settled.{Tidy, Lone, Settled, settled, unchanged, tidy-fixed}
@@ -113,20 +113,17 @@ slots-inside ns size = empty-below ns 0 64 (omega arith)
 
 -- ---- repair
 
-refused-not : {A : Type 0} (e : _) → Refused e ≡ Accepted → A
-refused-not e q = absurd (let z : _≡_ {A = ℕ} 0 1 = cc in omega arith)
-
 module _ (a : Arena) (size : length (a .nodes) ≡ 64) where
   finished-by : (b : Bool) (n : Normal) → Settled (n .nodes) (n .root) → anyOf wideNode (n .nodes) ≡ b → repairedBy b a n .answer ≡ Accepted → Finished (repairedBy b a n .tree)
-  finished-by true n s q e = refused-not _ e
+  finished-by true n s q e = refused-not e
   finished-by false n s q e = record { settled = s; narrow = q; whole = refl }
 
   finished-as : (o : Option Normal) → normalize (emptySlots (a .nodes)) (a .root) (a .nodes) ≡ o → repairedAs a o .answer ≡ Accepted → Finished (repairedAs a o .tree)
-  finished-as none q e = refused-not _ e
+  finished-as none q e = refused-not e
   finished-as (some n) q e = finished-by (anyOf wideNode (n .nodes)) n (settled (a .nodes) size (a .root) (emptySlots (a .nodes)) (slots-inside (a .nodes) size) n q) refl e
 
   finished-if : (b : Bool) → repairBy b a .answer ≡ Accepted → Finished (repairBy b a .tree)
-  finished-if true e = refused-not _ e
+  finished-if true e = refused-not e
   finished-if false e = finished-as (normalize (emptySlots (a .nodes)) (a .root) (a .nodes)) refl e
 
   -- an accepted repair's tree is settled

@@ -3,9 +3,9 @@
 use mathlib.Core.Path.{_≡_, refl, sym, subst, _∙_}
 use mathlib.Core.Logic.{_↔_}
 use mathlib.Core.Bool.{Bool, true, false}
-use mathlib.Core.List.{List, [], _∷_}
+use mathlib.Core.List.{List}
 use mathlib.Core.Option.{Option, none, some}
-use Prim.Native.Nat.{ℕ, zero, suc, _<_}
+use Prim.Native.Nat.{ℕ, _<_}
 use native.Mathlib.Omega.{arith}
 use lib.ListN.{length, getD, replicate}
 use Rattle.rules.specs.Lists.{anyOf}
@@ -13,12 +13,13 @@ use Rattle.rules.specs.Tree.{Node, empty, pane, tabs, split, Arena, isEmpty, ki
 use Rattle.rules.specs.Target.{panesIn}
 use Rattle.rules.specs.Repair.{Normal, Out, begin, normalizeNode, normalize, Repaired, repairedBy, repairedAs, repairBy, repair}
 use Rattle.rules.specs.declared.model.TileId.{TileId}
-use Rattle.rules.specs.declared.refusal.Answer.the-variants.{Accepted, Refused}
-use Rattle.rules.specs.declared.refusal.Refusal.{Refusal}
+use Rattle.rules.specs.declared.refusal.Answer.the-variants.{Accepted}
 use Rattle.forest.specs.Lists.{All, never, none-at}
+use Rattle.forest.specs.Answers.{refused-not}
 use Rattle.forest.specs.Soundness.{slots-inside}
 use Rattle.forest.specs.Seen.{panes-seen}
 use Rattle.forest.specs.Closed.{Met, Stood, Closed, Fair, walk-closed}
+use Rattle.forest.specs.Nodes.{full-below}
 
 -- ---- a slot with panes or children is occupied, and so it is one of the slots
 
@@ -33,11 +34,6 @@ kids-full empty k m = absurd m
 kids-full (pane q) k m = absurd m
 kids-full (tabs b a qs) k m = absurd m
 kids-full (split a cs ss ms) k m = refl
-
-full-below : (ns : List Node) (i : ℕ) → isEmpty (getD ns i empty) ≡ false → i < length ns
-full-below [] i e = never e
-full-below (n ∷ ns) zero e = omega arith
-full-below (n ∷ ns) (suc i) e = let h = full-below ns i e in omega arith
 
 pub full-inside : (ns : List Node) → length ns ≡ 64 → (i : ℕ) → isEmpty (getD ns i empty) ≡ false → i < 64
 full-inside ns size i e = let h = full-below ns i e in omega (arith, size)
@@ -89,9 +85,6 @@ module _ (t : Arena) (size : length (t .nodes) ≡ 64) where
 
   abbrev Has : Repaired → ℕ → Type 0
   Has r p = Member p (panesIn (r .tree .root) (r .tree .nodes))
-
-  refused-not : {A : Type 0} {e : Refusal} → Refused e ≡ Accepted → A
-  refused-not q = absurd (let z : _≡_ {A = ℕ} 0 1 = cc in omega arith)
 
   shown-by : (b : Bool) (n : Normal) (p : ℕ) → Member p (panesIn (n .root) (n .nodes)) ↔ Shown t p → repairedBy b t n .answer ≡ Accepted → Has (repairedBy b t n) p ↔ Shown t p
   shown-by true n p f e = refused-not e

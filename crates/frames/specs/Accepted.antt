@@ -8,18 +8,17 @@ use native.Mathlib.Omega.{arith}
 use native.Mathlib.Decide.{ℕ-discrete}
 use borrow.Author.Tests.{ltb-true}
 use lib.Dec.{T, eqb, ltb, eqb→eq}
-use lib.ListN.{length, getD, length-map, List·getD-map}
+use lib.ListN.{length, getD, List·getD-map}
 use lib.Ieee.{Float, nan, inf, fin, binary64, up, down, lt, le, eq, fits}
 use lib.Ieee.Fits.{and-i, and-l, and-r, cond-fits}
 use lib.Ieee.Scale.{finite}
 use Rattle.rules.specs.Numbers.{zero-f, plus, minimumOk}
-use Rattle.rules.specs.Tree.{Node, empty, pane, tabs, split, Arena, wideNode, readingFrom, Member}
+use Rattle.rules.specs.Tree.{Node, empty, tabs, split, Arena, wideNode, readingFrom, Member}
 use Rattle.rules.specs.Sound.{sound}
 use Rattle.rules.specs.Tabs.{majorSize}
 use Rattle.rules.specs.Frame.{Item, focusItem, paneItem, barItem, tabItem, childItem, handleItem, limit, minus-limit, coordinateOk, thicknessOk, boundsOk, sizeOk, inputOk, plusInput, childTotal, childMinima, splitLengths, childOf, gather, layoutItems, layoutBy, layoutInputBy, layout, Frame, frameOf, paneOf, barOf, tabOf, handleOf}
 use Rattle.rules.specs.declared.model.TileId.{TileId}
-use Rattle.rules.specs.declared.refusal.Answer.the-variants.{Accepted, Refused}
-use Rattle.rules.specs.declared.refusal.Refusal.{Refusal}
+use Rattle.rules.specs.declared.refusal.Answer.the-variants.{Accepted}
 use Rattle.rules.specs.declared.model.Axis.{Axis}
 use Rattle.rules.specs.declared.model.Axis.the-variants.{Horizontal, Vertical}
 use Rattle.rules.specs.declared.frame.LayoutInput.{LayoutInput}
@@ -29,8 +28,9 @@ use Rattle.rules.specs.declared.frame.TabFrame.{TabFrame}
 use Rattle.rules.specs.declared.frame.SplitChildFrame.{SplitChildFrame}
 use Rattle.rules.specs.declared.frame.SplitHandleFrame.{SplitHandleFrame}
 use Rattle.rules.specs.Solver.{sumOf}
+use Rattle.forest.specs.Answers.{refused-not}
 use Rattle.forest.specs.Lists.{member-all, All, all-append}
-use Rattle.forest.specs.Quiet.{plainNode, plainNodes}
+use Rattle.forest.specs.Quiet.{plainNode, plainNodes, wide-plain}
 use Rattle.forest.specs.Settled.{Lone}
 use Rattle.forest.specs.SoundCases.{Plain, sound-cases}
 use Rattle.number.specs.Arithmetic.{zero-fits}
@@ -149,12 +149,6 @@ module _ (i : LayoutInput) (ok : T (inputOk i)) where
 
 -- ---- no list of a sound arena is too wide
 
-wide-plain : (n : Node) → wideNode (plainNode n) ≡ wideNode n
-wide-plain empty = refl
-wide-plain (pane p) = refl
-wide-plain (tabs b a ps) = refl
-wide-plain (split a cs ss ms) = ap (λ (n : ℕ). ltb 16 (length cs) || ltb 16 (length ss) || ltb 16 n) (length-map ms plus)
-
 lone-narrow : (ns : List Node) (r : TileId) → Lone ns r → (t : ℕ) → Dec (t ≡ r .slot) → wideNode (getD ns t empty) ≡ false
 lone-narrow ns r L t (yes e) = ap (λ (k : ℕ). wideNode (getD ns k empty)) e ∙ ap wideNode (L .is)
 lone-narrow ns r L t (no n) = ap wideNode (L .rest t n)
@@ -188,14 +182,8 @@ laid-is a i e = go (sound a) (inputOk i) refl refl e
   where
     go : (s t : Bool) → sound a ≡ s → inputOk i ≡ t → layoutBy s a i .answer ≡ Accepted → (sound a ≡ true) × T (inputOk i) × (layoutBy s a i .frame ≡ frameOf (layoutItems a (plusInput i)))
     go true true p q u = (p, subst T (sym q) tt, ap (λ (b : Bool). layoutInputBy b a i .frame) q)
-    go true false p q u = absurd (let z : layoutInputBy false a i .answer ≡ Accepted = ap (λ (b : Bool). layoutInputBy b a i .answer) (sym q) ∙ u in told z)
-      where
-        told : {x : Refusal} → Refused x ≡ Accepted → ⊥
-        told z = let w : _≡_ {A = ℕ} 0 1 = cc in omega arith
-    go false t p q u = absurd (told u)
-      where
-        told : {x : Refusal} → Refused x ≡ Accepted → ⊥
-        told z = let w : _≡_ {A = ℕ} 0 1 = cc in omega arith
+    go true false p q u = refused-not (let z : layoutInputBy false a i .answer ≡ Accepted = ap (λ (b : Bool). layoutInputBy b a i .answer) (sym q) ∙ u in z)
+    go false t p q u = refused-not u
 
 -- every item of an accepted layout is finite, and a child's entry is fair
 pub items-fair : (a : Arena) (i : LayoutInput) → length (a .nodes) ≡ 64 → Reals64 a → InputReal i → sound a ≡ true → T (inputOk i) → All (FairItem (a .nodes) (plusInput i)) (layoutItems a (plusInput i))

@@ -1,16 +1,12 @@
 -- A split has a solved length for each child, whatever its numbers are. Assumes nothing.
-use mathlib.Core.Path.{_≡_, refl, sym, ap, _∙_}
+use mathlib.Core.Path.{_≡_, refl, sym, _∙_}
 use mathlib.Core.Bool.{Bool, true, false, cond}
 use mathlib.Core.List.{List, [], _∷_, map}
 use Prim.Native.Nat.{ℕ, zero, suc}
-use borrow.Author.Tests.{eqb-true}
-use lib.Dec.{eqb}
-use lib.ListN.{length, length-map, length-replicate}
+use lib.ListN.{length, length-map}
 use lib.Ieee.{Float, le, lt, eq, div, binary64}
-use Rattle.rules.specs.Numbers.{zero-f, one-f, whole, minimumOk, shareOk}
-use Rattle.rules.specs.Lists.{anyOf}
-use Rattle.rules.specs.Shares.{fixShare, mendedBy, repairedBy, repairedShares}
-use Rattle.rules.specs.Minima.{minMajor, minMajorBy, splitMinMajor}
+use Rattle.rules.specs.Numbers.{zero-f, whole}
+use Rattle.rules.specs.Shares.{repairedShares}
 use Rattle.rules.specs.Solver.{sumOf, part, pin, again, tick, ran, respread, run, start, still, sizes, sized, tight, loose, solveLengthsWithMin}
 use Rattle.rules.specs.Frame.{childTotal, childMinima, splitLengths}
 use Rattle.rules.specs.declared.solving.Kid.{Kid}
@@ -18,6 +14,7 @@ use Rattle.rules.specs.declared.model.Axis.{Axis}
 use Rattle.rules.specs.declared.frame.Rect.{Rect}
 use Rattle.rules.specs.declared.frame.LayoutInput.{LayoutInput}
 use Rattle.rules.specs.Tabs.{majorSize}
+use Rattle.forest.specs.Lengths.{repaired-length, minima-length}
 use Rattle.solver.specs.Loop.{start-length}
 
 run-length : (fuel : ℕ) (total : Float) (p : ℕ) (ks : List Kid) → length (run fuel total p ks .kids) ≡ length ks
@@ -55,33 +52,7 @@ unfolding solveLengthsWithMin
 solve-length total [] ms e = e
 solve-length total (s ∷ ss) ms e = zero-total total s ss ms e (eq total zero-f)
 
-shares-length : (n : ℕ) (ss : List Float) → length (repairedShares n ss) ≡ n
-unfolding repairedShares
-shares-length n ss = go (eqb (length ss) n) refl
-  where
-    many : (b : Bool) → length ss ≡ n → length (mendedBy b n ss) ≡ n
-    many true e = length-map ss fixShare ∙ e
-    many false e = length-replicate n one-f
-
-    go : (b : Bool) → eqb (length ss) n ≡ b → length (repairedBy b n ss) ≡ n
-    go true e = many (anyOf shareOk ss) (eqb-true (length ss) n e)
-    go false e = length-replicate n one-f
-
-major-length : (n : ℕ) (ms : List Float) (d : Float) → length (minMajor n ms d) ≡ n
-unfolding minMajor
-major-length zero ms d = refl
-major-length (suc n) [] d = ap suc (major-length n [] d)
-major-length (suc n) (m ∷ ms) d = ap suc (major-length n ms d)
-
-minima-length : (n : ℕ) (ms : List Float) (d : Float) → length (splitMinMajor n ms d) ≡ n
-unfolding splitMinMajor
-minima-length n ms d = go (minimumOk d)
-  where
-    go : (b : Bool) → length (minMajorBy b n ms d) ≡ n
-    go true = major-length n ms d
-    go false = length-replicate n zero-f
-
 pub lengths-counted : (a : Axis) (n : ℕ) (ss ms : List Float) (r : Rect) (i : LayoutInput) → length (splitLengths a n ss ms r i .lengths) ≡ n
 lengths-counted a n ss ms r i =
     let d = majorSize (i .«min_pane_size») a in
-    solve-length (childTotal a n r i) (repairedShares n ss) (childMinima a n ms i) (shares-length n ss ∙ sym (minima-length n ms d)) ∙ minima-length n ms d
+    solve-length (childTotal a n r i) (repairedShares n ss) (childMinima a n ms i) (repaired-length n ss ∙ sym (minima-length n ms d)) ∙ minima-length n ms d

@@ -10,7 +10,7 @@ use native.Mathlib.Omega.{arith}
 use lib.ListN.{length, getD, length-map, List·getD-map}
 use lib.Ieee.{Float, binary64, add}
 use Rattle.rules.specs.Tree.{Node, empty, pane, tabs, split, Arena, arena, nodeAt, panesOf, kidsOf, emptyGroup, samePlacement, reading, readingFrom}
-use Rattle.rules.specs.Target.{panesAlong, panesIn}
+use Rattle.rules.specs.Target.{panesIn}
 use Rattle.rules.specs.Repair.{childrenOf, sharesOf, minimaOf}
 use Rattle.rules.specs.Minima.{compactConstraints}
 use Rattle.rules.specs.Sound.{sound}
@@ -32,19 +32,15 @@ use Rattle.forest.specs.Again.{names}
 use Rattle.forest.specs.Depth.{Within, nested-within}
 use Rattle.forest.specs.Lists.{Distinct}
 use Rattle.forest.specs.Reach.{panes-once}
-use Rattle.forest.specs.Quiet.{plainNode, plainNodes}
+use Rattle.forest.specs.Quiet.{plainNode, plainNodes, kids-plain, panes-plain}
 use Rattle.forest.specs.Settled.{Lone, Settled, reads}
 use Rattle.forest.specs.SoundCases.{Plain, sound-cases}
+use Rattle.forest.specs.Along.{along, panes-along}
 use Rattle.frames.specs.Plain.{layout-plain}
 use Rattle.frames.specs.Fits.{lone-none}
 use Rattle.frames.specs.Counted.{lengths-counted}
 
 -- ---- along the tiles that are read
-
--- what h gives of each tile's node, in order
-unfoldable pub along : {A : Type 0} → (Node → List A) → List Node → List TileId → List A
-along h ns [] = []
-along h ns (x ∷ xs) = h (nodeAt ns x) ++ along h ns xs
 
 along-append : {A : Type 0} (h : Node → List A) (ns : List Node) (xs ys : List TileId) → along h ns (xs ++ ys) ≡ along h ns xs ++ along h ns ys
 unfolding along
@@ -140,12 +136,6 @@ reading-plain (suc f) ns [] = refl
 reading-plain (suc f) ns (x ∷ xs) =
     ap (λ (n : Node). x ∷ reading f (plainNodes ns) (kidsOf n ++ xs)) (List·getD-map plainNode ns (x .slot) empty)
     ∙ ap (λ (k : List TileId). x ∷ reading f (plainNodes ns) (k ++ xs)) (kids-plain (nodeAt ns x)) ∙ ap (λ l. x ∷ l) (reading-plain f ns (kidsOf (nodeAt ns x) ++ xs))
-  where
-    kids-plain : (n : Node) → kidsOf (plainNode n) ≡ kidsOf n
-    kids-plain empty = refl
-    kids-plain (pane p) = refl
-    kids-plain (tabs b a ps) = refl
-    kids-plain (split a cs ss ms) = refl
 
 pub lone-reads : (ns : List Node) (r : TileId) → Lone ns r → readingFrom ns r ≡ r ∷ []
 unfolding reading
@@ -211,17 +201,6 @@ focus-leafwise =
       of-group = λ t b a ps r i. gather-both focusOf (focusItems ps) (layoutTabsBy t b a ps r i) ∙ (λ z. focus-all ps z ++ focus-shown t b a ps r i z) ∙ append-nil ps;
       of-split = λ a cs ss ms. refl;
     }
-
-panes-along : (ns : List Node) (xs : List TileId) → along panesOf ns xs ≡ panesAlong ns xs
-unfolding along panesAlong
-panes-along ns [] = refl
-panes-along ns (x ∷ xs) = ap (λ l. panesOf (nodeAt ns x) ++ l) (panes-along ns xs)
-
-panes-plain : (n : Node) → panesOf (plainNode n) ≡ panesOf n
-panes-plain empty = refl
-panes-plain (pane p) = refl
-panes-plain (tabs b a ps) = refl
-panes-plain (split a cs ss ms) = refl
 
 -- the focus order is the tree's panes in reading order
 pub focus-order : (a : Arena) (i : LayoutInput) → length (a .nodes) ≡ 64 → sound a ≡ true → gather focusOf (layoutItems a i) ≡ panesIn (a .root) (a .nodes)

@@ -2,11 +2,9 @@
 use mathlib.Core.Path.{_≡_, refl, sym, ap, _∙_}
 use mathlib.Core.Bool.{Bool, true, false, _&&_, _||_, cond}
 use mathlib.Core.List.{List, [], _∷_, map}
-use Prim.Native.Nat.{ℕ, zero, suc, _*_}
-use borrow.Author.Tests.{eq-eqb, eqb-true}
-use lib.Dec.{eqb}
+use Prim.Native.Nat.{ℕ, zero, suc}
 use lib.ListN.{length, List·getD-map}
-use lib.Ieee.{Float, nan, inf, fin, up, down, lt, le, eq}
+use lib.Ieee.{Float, nan, inf, fin, lt, le, eq}
 use lib.Ieee.Scale.{finite}
 use Rattle.rules.specs.Numbers.{zero-f, larger, plus, minimumOk}
 use Rattle.rules.specs.Tree.{Node, empty, pane, tabs, split, nodeAt}
@@ -19,23 +17,10 @@ use Rattle.rules.specs.declared.model.TileId.{TileId}
 use Rattle.rules.specs.declared.frame.Rect.{Rect}
 use Rattle.rules.specs.declared.frame.LayoutInput.{LayoutInput}
 use Rattle.forest.specs.Lists.{never}
-use Rattle.forest.specs.Equal.{and-both}
 use Rattle.forest.specs.Quiet.{plainNode, plainNodes}
+use Rattle.forest.specs.Equal.{zero-flip}
 
 -- ---- a minimum
-
-zero-back : (x : Float) → eq x zero-f ≡ true → eq zero-f x ≡ true
-unfolding eq
-zero-back nan e = never (sym e)
-zero-back (inf s) e = never (sym e)
-zero-back (fin false m d) e =
-    let q : m * up d * 1 ≡ 0 * 1 * down d = eqb-true (m * up d * 1) (0 * 1 * down d) (and-both (eqb (m * up d * 1) (0 * 1 * down d)) true e .0) in
-    rw (eq-eqb (0 * 1 * down d) (m * up d * 1) (sym q)) refl
-zero-back (fin true m d) e =
-    let p = and-both (eqb (m * up d * 1) (0 * 1 * down d)) (eqb (m * up d * 1) 0) e in
-    let q : m * up d * 1 ≡ 0 * 1 * down d = eqb-true (m * up d * 1) (0 * 1 * down d) (p .0) in
-    let z : m * up d * 1 ≡ 0 = eqb-true (m * up d * 1) 0 (p .1) in
-    rw (eq-eqb (0 * 1 * down d) (m * up d * 1) (sym q), eq-eqb (0 * 1 * down d) 0 (sym q ∙ z)) refl
 
 zero-finite : (x : Float) → eq x zero-f ≡ true → finite x ≡ true
 unfolding eq
@@ -46,7 +31,7 @@ zero-finite (fin s m d) e = refl
 -- minus zero is a good minimum
 zero-good : (x : Float) → eq x zero-f ≡ true → minimumOk x ≡ true
 unfolding le
-zero-good x e = (λ z. zero-finite x e z && (lt zero-f x || zero-back x e z)) ∙ or-true (lt zero-f x)
+zero-good x e = (λ z. zero-finite x e z && (lt zero-f x || zero-flip x e z)) ∙ or-true (lt zero-f x)
   where
     or-true : (b : Bool) → (b || true) ≡ true
     or-true true = refl

@@ -8,27 +8,13 @@ use native.Mathlib.Omega.{arith}
 use borrow.Author.Tests.{lt-ltb}
 use lib.ListN.{length, take, drop, set, length-set}
 use lib.Seq.{take-suc-set, drop-set-lt}
-use Rattle.rules.specs.Tree.{barCode, axisCode}
 use Rattle.rules.specs.Frame.{Item, focusItem, paneItem, barItem, tabItem, childItem, handleItem, aBar, aTab, aHandle}
 use Rattle.rules.specs.declared.model.Axis.{Axis}
-use Rattle.rules.specs.declared.model.Axis.the-variants.{Horizontal, Vertical}
 use Rattle.rules.specs.declared.model.TabBarPlacement.{TabBarPlacement}
-use Rattle.rules.specs.declared.model.TabBarPlacement.the-variants.{Hidden, Top, Bottom, Left, Right}
-use Rattle.columns.specs.Columns.{barFrom, axisFrom}
+use Rattle.columns.specs.PackLaws.{bar-back, axis-back}
 use Rattle.streaming.specs.Stream.{flagCode, flagFrom, codeOf, sidesOf, itemFrom, itemsFrom, Stream, stream, pushBy, pushAll}
 
 -- ---- an item comes back
-
-bar-back : (b : TabBarPlacement) → barFrom (barCode b) ≡ b
-bar-back Hidden = refl
-bar-back Top = refl
-bar-back Bottom = refl
-bar-back Left = refl
-bar-back Right = refl
-
-axis-back : (a : Axis) → axisFrom (axisCode a) ≡ a
-axis-back Horizontal = refl
-axis-back Vertical = refl
 
 flag-back : (b : Bool) → flagFrom (flagCode b) ≡ b
 flag-back true = refl

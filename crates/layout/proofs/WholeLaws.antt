@@ -10,10 +10,10 @@ use Rattle.rules.specs.Tree.{Arena}
 use Rattle.rules.specs.Sound.{sound}
 use Rattle.rules.specs.Frame.{frameOf, refusedLayout, layoutInputBy, layoutBy, layout, layoutItems, inputOk, plusInput}
 use Rattle.rules.specs.declared.frame.LayoutInput.{LayoutInput}
-use Rattle.rules.specs.declared.refusal.Answer.{Answer}
 use Rattle.rules.specs.declared.refusal.Answer.the-variants.{Accepted, Refused}
 use Rattle.rules.specs.declared.refusal.Refusal.{Refusal}
 use Rattle.rules.specs.declared.refusal.Refusal.the-variants.{NotSound, BadInput}
+use Rattle.forest.specs.Answers.{not-both}
 use Rattle.columns.specs.Shown.{arenaFrom, Plain}
 use Rattle.frames.specs.Fits.{items-fit}
 use Rattle.streaming.specs.Stream.{codeOf, sidesOf, stream, itemsFrom, itemsIn, pushAll}
@@ -52,14 +52,11 @@ module _ (a : Arena) (i : LayoutInput) where
     unfolding itemsFrom
     nothing = refl
 
-    told : {x : Answer} {f : Refusal} → x ≡ Accepted → x ≡ Refused f → ⊥
-    told p q = let z : _≡_ {A = ℕ} 0 1 = cc in omega arith
-
     refused-out : (x : Refusal) (r : LaidOut) → layout a i ≡ refusedLayout x a → (r .answer ≡ Refused x) × (r .revision ≡ a .revision) × (r .len ≡ 0) → LaysOut a i cs qs cs qs r
     refused-out x r e (w, v, l) =
         record {
           right = (λ z. record { answer = w z; revision = v z; frame = frameOf (itemsIn (stream cs qs (l z))) }) ∙ (λ z. record { answer = Refused x; revision = a .revision; frame = frameOf (nothing z) }) ∙ sym e;
-          items = λ p. absurd (told p w);
+          items = λ p. not-both p w;
           codes = (λ z. map codeOf (sym nothing z) ++ drop 0 cs) ∙ (λ z. map codeOf (itemsIn (stream cs qs (sym l z))) ++ drop (sym l z) cs);
           sides = (λ z. map sidesOf (sym nothing z) ++ drop 0 qs) ∙ (λ z. map sidesOf (itemsIn (stream cs qs (sym l z))) ++ drop (sym l z) qs);
           size = l ∙ (λ z. length (sym nothing z)) ∙ (λ z. length (itemsIn (stream cs qs (sym l z))));
@@ -91,5 +88,5 @@ module _ (a : Arena) (i : LayoutInput) where
           size = (let z : n ≡ length xs = omega (arith, W .size) in z) ∙ ap length (sym all);
           few = omega (arith, W .size);
           long = W .long;
-          untouched = λ x q. absurd (told refl q);
+          untouched = λ x q. not-both refl q;
         }

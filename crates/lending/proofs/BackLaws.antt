@@ -8,13 +8,10 @@ use lib.ListN.{getD, take}
 use lib.Ieee.{Float}
 use Rattle.rules.specs.Lists.{anyOf, allOf}
 use Rattle.rules.specs.Tree.{tabs, split, tile, barCode, axisCode}
-use Rattle.rules.specs.declared.model.Axis.{Axis}
-use Rattle.rules.specs.declared.model.Axis.the-variants.{Horizontal, Vertical}
-use Rattle.rules.specs.declared.model.TabBarPlacement.{TabBarPlacement}
-use Rattle.rules.specs.declared.model.TabBarPlacement.the-variants.{Hidden, Top, Bottom, Left, Right}
 use Rattle.columns.specs.Columns.{barFrom, axisFrom, nodeBy, nodeFrom, nodesFrom}
 use Rattle.columns.specs.Pack.{overKind, overOf}
 use Rattle.columns.specs.Shown.{arenaFrom}
+use Rattle.columns.specs.PackLaws.{bar-back, axis-back}
 use Rattle.coding.specs.Lent.{lot, codeOk, codesOk}
 use Rattle.crossing.specs.Parts.{Holds}
 use Rattle.lending.specs.Back.{fittedBy, fitted, fitBy, fitHeads}
@@ -48,17 +45,6 @@ fitted-split (suc (suc zero)) h r a b c e = absurd (c refl)
 fitted-split (suc (suc (suc k))) h r a b c e = λ z. 3 ∷ e z ∷ 0 ∷ 0 ∷ getD h 4 0 ∷ getD h 5 0 ∷ getD h 6 0 ∷ 0 ∷ []
 
 -- ---- one head
-
-bar-back : (b : TabBarPlacement) → barFrom (barCode b) ≡ b
-bar-back Hidden = refl
-bar-back Top = refl
-bar-back Bottom = refl
-bar-back Left = refl
-bar-back Right = refl
-
-axis-back : (a : Axis) → axisFrom (axisCode a) ≡ a
-axis-back Horizontal = refl
-axis-back Vertical = refl
 
 module _ (h : List ℕ) where
   node-fit : (k : ℕ) (xs : List ℕ) (ss ms : List Float) → nodeFrom (fittedBy k h) xs ss ms ≡ nodeBy k h xs ss ms

@@ -7,14 +7,13 @@ use Prim.Native.Nat.{ℕ, zero, suc, _+_, _*_, _≤_, _<_}
 use native.Mathlib.Nat.{le-of-suc-le-suc}
 use native.Mathlib.Numerals.{add-one}
 use native.Mathlib.Omega.{arith}
-use borrow.Author.Tests.{ne-eqb, eqb-true}
+use borrow.Author.Tests.{ne-eqb}
 use lib.Dec.{eqb}
-use lib.ListN.{length, getD, take, drop, set, length-set, length-map, length-append, length-replicate, drop-of-length-le}
+use lib.ListN.{length, getD, take, drop, set, length-set, length-map, length-append, drop-of-length-le}
 use lib.Seq.{drop-cons, length-take-le}
 use lib.Ieee.{Float, eq}
-use Rattle.rules.specs.Numbers.{zero-f, one-f, shareOk}
-use Rattle.rules.specs.Lists.{anyOf}
-use Rattle.rules.specs.Shares.{fixShare, mendedBy, repairedBy, repairedShares, eqReals}
+use Rattle.rules.specs.Numbers.{zero-f}
+use Rattle.rules.specs.Shares.{repairedShares, eqReals}
 use Rattle.rules.specs.Minima.{alignedConstraints, compactConstraints}
 use Rattle.rules.specs.Tree.{Node, empty, split, tile, ids, reals, sameAxis}
 use Rattle.rules.specs.Repair.{Work, Out, out, Entry, entry, entries, Run, run, melts, melted, scaled, place, placeBy, note, noteIf, store, clear, addedIf, childrenOf, sharesOf, minimaOf, keptSplit, splitLeft, splitDone}
@@ -25,7 +24,7 @@ use Rattle.rules.specs.declared.model.RepairAction.the-variants.{RemovedInvalid
 use Rattle.rules.specs.declared.model.Reals.{Reals}
 use Rattle.lists.specs.Exact.{IsReals, Pushed}
 use Rattle.forest.specs.Lists.{free}
-use Rattle.forest.specs.Mended.{aligned-length}
+use Rattle.forest.specs.Lengths.{repaired-length, aligned-length}
 use Rattle.sifting.specs.Work.{Cols, cols, Sized, Shows}
 use Rattle.columns.specs.Columns.{Slim, Noted, codeOf, axisFrom, nodeBy, nodeFrom, nodesFrom}
 use Rattle.sifting.specs.Walked.{Even, entriesOf, reserve, Placed}
@@ -206,18 +205,6 @@ module _ (m : ℕ) (v : Float) (h xs : List ℕ) (ss ms : List Float) where
   melts-split e a = sym (ap (λ (b : Bool). b && eq v zero-f) a) ∙ split-kind (getD h 0 0) e
 
 -- ---- mended lists
-
-pub repaired-length : (n : ℕ) (xs : List Float) → length (repairedShares n xs) ≡ n
-unfolding repairedShares
-repaired-length n xs = by (eqb (length xs) n) refl
-  where
-    good : (b : Bool) → length xs ≡ n → length (mendedBy b n xs) ≡ n
-    good true e = length-map xs fixShare ∙ e
-    good false e = length-replicate n one-f
-
-    by : (b : Bool) → eqb (length xs) n ≡ b → length (repairedBy b n xs) ≡ n
-    by true e = good (anyOf shareOk xs) (eqb-true (length xs) n e)
-    by false e = length-replicate n one-f
 
 pub mends : (k l : Kids) → Long k → k .children .len ≤ 16 → l .children ≡ k .children
     → IsReals (l .shares) (repairedShares (k .children .len) (reals (k .shares)))

@@ -1,14 +1,14 @@
 -- Laws of groups read and changed, over plain values. Assumes nothing.
 use mathlib.Core.Path.{_≡_, refl, sym, ap, subst, _∙_}
 use mathlib.Core.Bool.{true, false, _||_}
-use mathlib.Core.List.{List, [], _∷_}
-use mathlib.Core.Option.{Option, none, some}
-use Prim.Native.Nat.{ℕ, zero, suc, _≤_, _<_, min}
+use mathlib.Core.List.{List}
+use mathlib.Core.Option.{Option}
+use Prim.Native.Nat.{ℕ, _≤_, _<_, min}
 use native.Mathlib.Omega.{arith}
 use native.Mathlib.Nat.{min-le-right}
 use borrow.Author.Tests.{lt-ltb, leb-false, leb-true}
 use lib.Dec.{ltb}
-use lib.ListN.{length, getD, getElem?, take, length-take}
+use lib.ListN.{length, getElem?, take, length-take}
 use lib.Seq.{length-take-le}
 use Rattle.rules.specs.Lists.{insertAt, removeAt}
 use Rattle.rules.specs.Tree.{tabs, ids, viewSlot, nodeOf, overBy, overSlot, panesOf, wideNode}
@@ -20,6 +20,7 @@ use Rattle.rules.specs.declared.model.Ids.{Ids}
 use Rattle.rules.specs.declared.model.Kind.{Kind}
 use Rattle.rules.specs.declared.model.Kind.the-variants.{Empty, Pane, Tabs, Split}
 use Rattle.rules.specs.declared.model.Slot.{Slot}
+use Rattle.forest.specs.Again.{element-at, element-past}
 use Rattle.lists.specs.Exact.{IsIds}
 use Rattle.lists.specs.Places.{length-insertAt, length-removeAt}
 use Rattle.nodes.specs.Parts.{Rows, isGroup, fullBy, isFull, reorderedIn}
@@ -116,22 +117,12 @@ module _ (s : Slot) (b : TabBarPlacement) (e : s .kind ≡ Tabs b) where
 
 -- ---- the active pane stays
 
-elem-past : (xs : List ℕ) (n : ℕ) → length xs ≤ n → getElem? xs n ≡ none
-elem-past [] n h = refl
-elem-past (x ∷ xs) zero h = absurd (omega arith)
-elem-past (x ∷ xs) (suc n) h = elem-past xs n (omega arith)
-
-elem-at : (xs : List ℕ) (n : ℕ) → n < length xs → getElem? xs n ≡ some (getD xs n 0)
-elem-at [] n h = absurd (omega arith)
-elem-at (x ∷ xs) zero h = refl
-elem-at (x ∷ xs) (suc n) h = elem-at xs n (omega arith)
-
 pub kept-past : (len active : ℕ) (at ps : List ℕ) → len ≤ active → active ≡ keptActive (getElem? (take len at) active) active ps
-kept-past len active at ps h = sym (ap (λ (o : Option ℕ). keptActive o active ps) (elem-past (take len at) active (omega (arith, length-take len at))))
+kept-past len active at ps h = sym (ap (λ (o : Option ℕ). keptActive o active ps) (element-past (take len at) active (omega (arith, length-take len at))))
 
 pub kept-here : (len active : ℕ) (at ps : List ℕ) → active < len → len ≤ length at → activeOf (getElem? (take len at) active) ps ≡ keptActive (getElem? (take len at) active) active ps
 kept-here len active at ps h g =
-    let e = elem-at (take len at) active (omega (arith, length-take-le len at g)) in ap (λ (o : Option ℕ). activeOf o ps) e ∙ sym (ap (λ (o : Option ℕ). keptActive o active ps) e)
+    let e = element-at (take len at) active (omega (arith, length-take-le len at g)) in ap (λ (o : Option ℕ). activeOf o ps) e ∙ sym (ap (λ (o : Option ℕ). keptActive o active ps) e)
 
 -- a group's panes are those of its slot
 pub group-panes : (s : Slot) → isGroup (viewSlot s) → panesOf (viewSlot s) ≡ ids (s .panes)

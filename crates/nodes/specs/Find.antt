@@ -2,7 +2,7 @@
 use mathlib.Core.Path.{_≡_, refl, sym, ap, subst, _∙_}
 use mathlib.Core.Logic.{_⊎_, inl, inr}
 use mathlib.Core.Bool.{Bool, true, false}
-use mathlib.Core.List.{List, [], _∷_, _++_}
+use mathlib.Core.List.{List, [], _∷_}
 use mathlib.Core.Option.{Option, none, some}
 use Prim.Native.Nat.{ℕ, zero, suc, _+_, _≤_, _<_}
 use native.Mathlib.Omega.{arith}
@@ -15,9 +15,10 @@ use Rattle.rules.specs.Tree.{Node, empty, pane, tabs, split, tile, nodeAt, isEm
 use Rattle.rules.specs.Target.{PaneLocation, nowhere, inTile, inTabs, tileHas, tabsHave, located, locate, findPane, Parent, parentBy, seekParent, findParent, panesAlong, panesIn}
 use Rattle.rules.specs.declared.model.TileId.{TileId}
 use Rattle.lists.specs.Find.{position-found}
-use Rattle.forest.specs.Lists.{All, Distinct, never, member-all, member-right, member-left, clash}
+use Rattle.forest.specs.Lists.{All, Distinct, member-all, member-right, member-left, clash, distinct-right}
 use Rattle.forest.specs.Settled.{slots}
 use Rattle.forest.specs.Stays.{panes-full}
+use Rattle.forest.specs.Nodes.{parent-full, full-below}
 
 -- ---- the scans: slot by slot, from the lowest
 
@@ -227,22 +228,12 @@ pub record OneTree (ns : List Node) (r : TileId) : Type 0 where
   pub panes : Distinct (panesIn r ns)
   pub parents : (i j t : ℕ) → Member t (slots (kidsOf (getD ns i empty))) → Member t (slots (kidsOf (getD ns j empty))) → i ≡ j
 
-kids-full : (n : Node) (t : ℕ) → Member t (slots (kidsOf n)) → isEmpty n ≡ false
-kids-full empty p m = absurd m
-kids-full (pane q) p m = absurd m
-kids-full (tabs b a qs) p m = absurd m
-kids-full (split a cs ss ms) p m = refl
-
 module _ (ns : List Node) where
   pub along-in : (p : ℕ) (xs : List TileId) (i : ℕ) → Member i (slots xs) → Member p (panesOf (getD ns i empty)) → Member p (panesAlong ns xs)
   unfolding panesAlong
   along-in p [] i m h = absurd m
   along-in p (x ∷ xs) i (inl e) h = member-left p (panesOf (nodeAt ns x)) (panesAlong ns xs) (subst (λ (k : ℕ). Member p (panesOf (getD ns k empty))) e h)
   along-in p (x ∷ xs) i (inr m) h = member-right p (panesOf (nodeAt ns x)) (panesAlong ns xs) (along-in p xs i m h)
-
-  distinct-tail : (xs ys : List ℕ) → Distinct (xs ++ ys) → Distinct ys
-  distinct-tail [] ys d = d
-  distinct-tail (x ∷ xs) ys d = distinct-tail xs ys (d .1)
 
   pub pane-once : (p : ℕ) (xs : List TileId) → Distinct (panesAlong ns xs) → (i j : ℕ) → Member i (slots xs) → Member j (slots xs)
       → Member p (panesOf (getD ns i empty)) → Member p (panesOf (getD ns j empty)) → i ≡ j
@@ -253,16 +244,11 @@ module _ (ns : List Node) where
       clash p (panesOf (nodeAt ns x)) (panesAlong ns xs) d (subst (λ (k : ℕ). Member p (panesOf (getD ns k empty))) e h) (along-in p xs j n g)
   pane-once p (x ∷ xs) d i j (inr m) (inl f) h g =
       clash p (panesOf (nodeAt ns x)) (panesAlong ns xs) d (subst (λ (k : ℕ). Member p (panesOf (getD ns k empty))) f g) (along-in p xs i m h)
-  pane-once p (x ∷ xs) d i j (inr m) (inr n) h g = pane-once p xs (distinct-tail (panesOf (nodeAt ns x)) (panesAlong ns xs) d) i j m n h g
-
-  past : (ms : List Node) (i : ℕ) → isEmpty (getD ms i empty) ≡ false → i < length ms
-  past [] i e = never e
-  past (m ∷ ms) zero e = omega arith
-  past (m ∷ ms) (suc i) e = let h = past ms i e in omega arith
+  pane-once p (x ∷ xs) d i j (inr m) (inr n) h g = pane-once p xs (distinct-right (panesOf (nodeAt ns x)) (panesAlong ns xs) d) i j m n h g
 
   module _ (r : TileId) (O : OneTree ns r) where
     in-all : (i : ℕ) → isEmpty (getD ns i empty) ≡ false → Member i (count 0 (length ns))
-    in-all i e = in-count 0 (length ns) i (omega arith) (let h = past ns i e in omega arith)
+    in-all i e = in-count 0 (length ns) i (omega arith) (let h = full-below ns i e in omega arith)
 
     pub find-scan : (p : ℕ) → findPane r ns p ≡ scanPane ns p
     find-scan p =
@@ -285,7 +271,7 @@ module _ (ns : List Node) where
         ∙ sym (parent-first ns t 0 ns (λ j. ap (λ (i : ℕ). getD ns i empty) (let q : j ≡ 0 + j = omega arith in q)))
       where
         full : (i : ℕ) (x : Parent) → kidHit ns t i ≡ some x → isEmpty (getD ns i empty) ≡ false
-        full i x e = kids-full (getD ns i empty) (t .slot) (held-kids (getD ns i empty) t (tile i) x e)
+        full i x e = parent-full (getD ns i empty) (t .slot) (held-kids (getD ns i empty) t (tile i) x e)
 
 -- ---- what a scan finds stands where it says
 

@@ -1,7 +1,7 @@
 -- Laws of the list of actions, over plain values: a search of the first n, and what noting one leaves. Assumes nothing.
 use mathlib.Core.Path.{_≡_, refl, sym, ap, subst, _∙_}
 use mathlib.Core.Bool.{Bool, true, false, _||_}
-use mathlib.Core.List.{List, [], _∷_, _++_, map}
+use mathlib.Core.List.{List, [], _∷_, _++_, map, map-append}
 use mathlib.Core.Option.{none}
 use Prim.Native.Nat.{ℕ, _+_, _≤_, _<_}
 use native.Mathlib.Numerals.{add-one}
@@ -14,7 +14,7 @@ use Rattle.rules.specs.Lists.{anyOf}
 use Rattle.rules.specs.Repair.{actionCode, actionTile, actionPane, sameAction, addedBy, added}
 use Rattle.rules.specs.declared.model.RepairAction.{RepairAction}
 use Rattle.lists.specs.Tests.{Flagged, flagged-more, flagged-all}
-use Rattle.columns.specs.Columns.{codeOf, isCode, listed, Lists, Noted}
+use Rattle.columns.specs.Columns.{codeOf, isCode, listed, Noted}
 
 -- ---- a search of the first n, by what is left
 
@@ -39,10 +39,6 @@ module _ {A : Type 0} (t : A → Bool) (xs : List A) (n : ℕ) where
   searched-all i h l s = flagged-all t (take n xs) i false (omega (arith, length-take-le n xs l)) s
 
 -- ---- the list of actions
-
-map-append : {A B : Type 0} (f : A → B) (xs ys : List A) → map f (xs ++ ys) ≡ map f xs ++ map f ys
-map-append f [] ys = refl
-map-append f (x ∷ xs) ys = ap (λ l. f x ∷ l) (map-append f xs ys)
 
 -- an action is in the list where its numbers are
 listed-same : (a : RepairAction) (l : List RepairAction) → anyOf (sameAction a) l ≡ listed (actionCode a) (actionTile a .slot) (actionPane a) (map codeOf l)

@@ -19,6 +19,7 @@ use Rattle.rules.specs.declared.refusal.Refusal.the-variants.{NotSound}
 use Rattle.columns.specs.Columns.{nodesFrom}
 use Rattle.columns.specs.Pack.{overOf, Even}
 use Rattle.columns.specs.Shown.{arenaFrom, Plain}
+use Rattle.columns.specs.RowLaws.{even-plain, plain-even}
 use Rattle.settling.proofs.PlainLaws.{plain-over, plain-long}
 use Rattle.repair.proofs.SoundLaws.{sound-whole}
 use Rattle.nodes.specs.Find.{find-scan, parent-scan}
@@ -26,7 +27,7 @@ use Rattle.docking.specs.Trees.{sound-standing}
 use Rattle.docking.specs.Steps.{Fit, Ready, Makes, applied, Comes}
 use Rattle.docking.specs.declared.Applying.{Applying}
 use Rattle.docking.specs.declared.AppliedIn.{AppliedIn}
-use Rattle.docking.proofs.FinishLaws.{even-plain, plain-even, comes-refused, comes-same}
+use Rattle.docking.proofs.FinishLaws.{comes-refused, comes-same}
 
 -- ---- a sound arena
 

@@ -15,10 +15,11 @@ use Rattle.rules.specs.Insert.{removedFrom, removePane}
 use Rattle.rules.specs.declared.model.TileId.{TileId}
 use Rattle.forest.specs.Lists.{never}
 use Rattle.forest.specs.Settled.{slots}
-use Rattle.forest.specs.Stays.{panes-full, full-inside}
-use Rattle.nodes.specs.Find.{OneTree, pane-once}
+use Rattle.forest.specs.Stays.{full-inside}
+use Rattle.nodes.specs.Find.{OneTree}
 use Rattle.docking.specs.Trees.{reading-like, sound-standing}
 use Rattle.fates.specs.Spots.{set-passes}
+use Rattle.fates.specs.Removal.{one-slot}
 use Rattle.promises.specs.Stands.{Found}
 
 slot-member : (t : TileId) (xs : List TileId) → Member (t .slot) (slots xs) → Member t xs
@@ -48,11 +49,6 @@ module _ (a : Arena) (size : length (a .nodes) ≡ 64) (s : sound a ≡ true) (p
   pub stands-read : (t : TileId) → isEmpty (nodeAt ns t) ≡ false → Member t (readingFrom ns (a .root))
   stands-read t e = slot-member t (readingFrom ns (a .root)) (one .covers (t .slot) e)
 
-  -- the pane stands in one slot
-  same-slot : (i j : ℕ) → Member p (panesOf (getD ns i empty)) → Member p (panesOf (getD ns j empty)) → i ≡ j
-  same-slot i j m n =
-      pane-once ns p (readingFrom ns (a .root)) (one .panes) i j (one .covers i (panes-full (getD ns i empty) p m)) (one .covers j (panes-full (getD ns j empty) p n)) m n
-
   shown-pane : (t : TileId) → nodeAt ns t ≡ pane p → Member p (panesOf (nodeAt ns t))
   shown-pane t e = subst (λ (n : Node). Member p (panesOf n)) (sym e) (inl refl)
 
@@ -73,7 +69,7 @@ module _ (a : Arena) (size : length (a .nodes) ≡ 64) (s : sound a ≡ true) (p
       record {
         stays = λ t h n. ap existing (getD-set-other ns (i .slot) (t .slot) empty empty (λ w. n (ap (λ (k : ℕ). getD ns k empty) w ∙ q))) ∙ full-exists (nodeAt ns t) h;
         goes = λ t h.
-            ap (λ (k : ℕ). getD (set ns (i .slot) empty) k empty) (same-slot (t .slot) (i .slot) (shown-pane t h) (shown-pane i q))
+            ap (λ (k : ℕ). getD (set ns (i .slot) empty) k empty) (one-slot ns p (a .root) one (t .slot) (i .slot) (shown-pane t h) (shown-pane i q))
             ∙ getD-set-same ns (i .slot) empty empty (let w = full-inside ns size (i .slot) (ap isEmpty q) in omega (arith, w, size));
         reads = reading-like ns (removePane (inTile i) ns) (kids-set (i .slot) empty (sym (ap kidsOf q))) 1025 (a .root ∷ []);
       }
@@ -92,5 +88,5 @@ module _ (a : Arena) (size : length (a .nodes) ≡ 64) (s : sound a ≡ true) (p
 
       apart : (t : TileId) → nodeAt ns t ≡ pane p → ⊥
       apart t w =
-          let z : t .slot ≡ g .slot = same-slot (t .slot) (g .slot) (shown-pane t w) (subst (λ (x : Node). Member p (panesOf x)) (sym q) h) in
+          let z : t .slot ≡ g .slot = one-slot ns p (a .root) one (t .slot) (g .slot) (shown-pane t w) (subst (λ (x : Node). Member p (panesOf x)) (sym q) h) in
           never (sym (ap isTabs q) ∙ ap (λ (j : ℕ). isTabs (getD ns j empty)) (sym z) ∙ ap isTabs w)

@@ -3,7 +3,7 @@
 use mathlib.Core.Path.{_≡_, refl, sym, ap, subst, _∙_}
 use mathlib.Core.Logic.{_≢_, _↔_, inl, inr}
 use mathlib.Core.Bool.{Bool, true, false, cond}
-use mathlib.Core.List.{List, [], _∷_, _++_}
+use mathlib.Core.List.{List, [], _∷_}
 use mathlib.Core.Option.{Option, none, some}
 use Prim.Native.Nat.{ℕ, _<_}
 use native.Mathlib.Omega.{arith}
@@ -12,10 +12,10 @@ use borrow.Author.Tests.{leb-false, le-ltb}
 use lib.Dec.{leb, eqb}
 use lib.ListN.{length}
 use Rattle.rules.specs.Lists.{anyOf, position, isSome}
-use Rattle.rules.specs.Tree.{Node, empty, pane, tabs, split, Arena, tile, nodeAt, setNode, kidsOf, panesOf, emptySlots, emptyGroup, reading, readingFrom, Member}
+use Rattle.rules.specs.Tree.{Node, empty, pane, tabs, split, Arena, tile, nodeAt, setNode, panesOf, emptySlots, emptyGroup, reading, readingFrom, Member}
 use Rattle.rules.specs.Repair.{Normal, swept, sweep, rooted, begin, normalizeNode, normalize}
 use Rattle.rules.specs.Sound.{sound}
-use Rattle.rules.specs.Target.{PaneLocation, nowhere, inTile, inTabs, isSomewhere, panesAlong, panesIn}
+use Rattle.rules.specs.Target.{PaneLocation, nowhere, inTile, inTabs, isSomewhere, panesIn}
 use Rattle.rules.specs.Operations as Rule
 use Rattle.rules.specs.Operations.{Change, Step, refuse, unchanged, changed, whereIs, applyInner, apply}
 use Rattle.rules.specs.declared.model.TileId.{TileId}
@@ -24,6 +24,7 @@ use Rattle.rules.specs.declared.operation.TileOp.the-variants.{ActivatePane, Cl
 use Rattle.forest.specs.Lists.{Distinct, never}
 use Rattle.forest.specs.Grow.{tile-keeps}
 use Rattle.forest.specs.Stays.{Shown, panes-reached}
+use Rattle.forest.specs.Nodes.{root-shows}
 use Rattle.nodes.specs.Find.{OneTree}
 use Rattle.docking.specs.Trees.{sound-standing}
 use Rattle.fates.specs.Theorems.{Shape, inner-shape}
@@ -39,15 +40,11 @@ use Rattle.promises.specs.LateExact.{Crowded, Room, Full, made, apply-fu
 
 -- ---- a pane that is shown is kept
 
-group-shows : (ns : List Node) (r : TileId) → nodeAt ns r ≡ emptyGroup → panesIn r ns ≡ []
-unfolding panesAlong reading
-group-shows ns r e = (λ z. panesAlong ns (r ∷ reading 1024 ns (kidsOf (e z) ++ []))) ∙ (λ z. panesOf (e z) ++ [])
-
 -- the root that is made where nothing is kept shows nothing
 fresh-bare : (ns : List Node) → length ns ≡ 64 → let ms = setNode (tile 0) emptyGroup ns in panesIn (tile 0) (swept 0 (readingFrom ms (tile 0)) ms) ≡ []
 unfolding swept reading anyOf
 fresh-bare [] e = absurd (omega (arith, e))
-fresh-bare (n ∷ ns) e = let ms = emptyGroup ∷ ns in group-shows (swept 0 (readingFrom ms (tile 0)) ms) (tile 0) refl
+fresh-bare (n ∷ ns) e = let ms = emptyGroup ∷ ns in root-shows (swept 0 (readingFrom ms (tile 0)) ms) (tile 0) refl
 
 -- where nothing is kept, a slot for a root would make a tree with no pane
 pub bare-normal : (r : TileId) (ns : List Node) → length ns ≡ 64 → normalizeNode 64 r (begin ns) .kept ≡ none → (n : Normal) × (normalize (0 ∷ []) r ns ≡ some n) × (panesIn (n .root) (n .nodes) ≡ [])

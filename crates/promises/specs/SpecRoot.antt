@@ -3,7 +3,7 @@ use mathlib.Core.Path.{_≡_, refl, sym, ap, subst, _∙_}
 use mathlib.Core.Logic.{_↔_, _⊎_, inl, inr}
 use mathlib.Core.Bool.{Bool, true, false, _&&_}
 use mathlib.Core.List.{List, [], _∷_, _++_}
-use mathlib.Core.Option.{Option, none, some}
+use mathlib.Core.Option.{none}
 use Prim.Native.Nat.{ℕ, zero, suc, _+_, _≤_}
 use native.Mathlib.Omega.{arith}
 use borrow.Author.Tests.{ltb-true, ltb-false, eqb-true}
@@ -11,22 +11,18 @@ use lib.Dec.{ltb, eqb}
 use lib.ListN.{length, take}
 use Rattle.rules.specs.Tree.{tile, emptySlots}
 use Rattle.rules.specs.Table.{Row, paneRow, tabsRow, splitRow, panesUsed, sharesUsed, minimaUsed, sumRows, preorder, Table}
-use Rattle.rules.specs.Spec.{Left, after, rowPanes, rowShares, rowMinima, leftOf, rowRefusal, firstRefusal, validate, builtNodes}
+use Rattle.rules.specs.Spec.{Left, after, rowPanes, rowShares, rowMinima, leftOf, rowRefusal, validate, builtNodes}
 use Rattle.rules.specs.Refusals.{told}
-use Rattle.rules.specs.declared.refusal.Refusal.{Refusal}
+use Rattle.build.specs.SlotsLoop.{first-none}
 use Rattle.forest.specs.Kept.{keeps-panes}
 use Rattle.accepted.specs.Standing.{read-fits, held}
 use Rattle.promises.specs.Words.{and-iff}
-use Rattle.promises.specs.RepairExact.{some-none, no-room}
+use Rattle.promises.specs.RepairExact.{no-room}
 use Rattle.promises.specs.OpsExact.{told-apart}
 use Rattle.promises.specs.RowExact.{rowTold, row-few, row-empty}
 use Rattle.promises.specs.SpecEnds.{Ended, Slim, first, made}
 use Rattle.promises.specs.SpecExact.{Many, Rootless, spec-full}
 use Rattle.promises.specs.RootKept.{bare-normal}
-
-first-none : (o r : Option Refusal) → firstRefusal o r ≡ none → (o ≡ none) × (r ≡ none)
-first-none (some e) r q = some-none q
-first-none none r q = (refl, q)
 
 -- ---- rows that use no pane are splits of two or more, and such rows never end
 

@@ -19,7 +19,7 @@ use Rattle.settling.specs.Settle.{Comes, Mends}
 use Rattle.settling.specs.declared.Settled.{Settled}
 use Rattle.repair.specs.declared.Repairing.{Repairing}
 use Rattle.settling.proofs.PlainLaws.{tree-shown}
-use Rattle.settling.proofs.SettleLaws.{not-both}
+use Rattle.forest.specs.Answers.{not-both}
 
 -- ---- the packing
 
@@ -32,12 +32,12 @@ module _ (t : TileTree) (s : Settled) (hs xs : List (List ℕ)) (ss ms : List (L
         answer = er ∙ sym e;
         tree = λ q. λ z. record { root = root z; revision = revision z; nodes = nodes z; over = over z };
         actions = λ q. listed;
-        given = λ f q. absurd (not-both e q);
+        given = λ f q. not-both e q;
       }
 
   pub packs-refused : (f : Refusal) → s .answer ≡ Refused f → Returns t f r → Packs t s hs xs ss ms acts r
   packs-refused f e R =
-      record { answer = R .answer ∙ sym e; tree = λ q. absurd (not-both q e); actions = λ q. absurd (not-both q e); given = λ g q. (R .tree, R .actions) }
+      record { answer = R .answer ∙ sym e; tree = λ q. not-both q e; actions = λ q. not-both q e; given = λ g q. (R .tree, R .actions) }
 
 -- ---- and what it gives
 

@@ -12,8 +12,9 @@ use Rattle.rules.specs.Lists.{anyOf, allOf, sameList}
 use Rattle.rules.specs.Tree.{Node, Arena, empty, isEmpty, emptyGroup, barCode, sameNode}
 use Rattle.rules.specs.Repair.{repair}
 use Rattle.rules.specs.Sound.{isAccepted, isNone, loneEmptyRoot, sound}
+use Rattle.forest.specs.Bools.{and-both}
+use Rattle.forest.specs.Nodes.{past}
 use Rattle.forest.specs.Lists.{never}
-use Rattle.forest.specs.Equal.{and-both}
 use Rattle.forest.specs.SoundIs.{quiet-repair, sound-is}
 use Rattle.columns.specs.Columns.{barFrom, nodeBy, nodeFrom, nodesFrom, Slim}
 use Rattle.columns.specs.Pack.{overKind, overOf}
@@ -62,11 +63,6 @@ lone-bare (h ∷ hs) (x ∷ xs) (s ∷ ss) (m ∷ ms) p q r zero l e a =
 lone-bare (h ∷ hs) (x ∷ xs) (s ∷ ss) (m ∷ ms) p q r (suc i) l e a =
     let (b, c) = and-both (isEmpty (nodeFrom h x s m)) (allOf isEmpty (set (nodesFrom hs xs ss ms) i empty)) a in
     ap (λ (y : Bool). y || anyOf overOf hs) (bare (getD h 0 0) h x s m b) ∙ lone-bare hs xs ss ms (omega arith) (omega arith) (omega arith) i l e c
-
-past : (ns : List Node) (i : ℕ) → length ns ≤ i → getD ns i empty ≡ empty
-past [] i h = refl
-past (n ∷ ns) zero h = absurd (omega arith)
-past (n ∷ ns) (suc i) h = past ns i (omega arith)
 
 module _ (root v : ℕ) (hs xs : List (List ℕ)) (ss ms : List (List Float)) (P : Plain hs xs ss ms) (row : root < 64 → length (getD xs root []) ≡ 16) where
   abbrev a : Arena

@@ -1,7 +1,7 @@
 -- A normal forest's own table passes validation: each row finds its entries at the front of what is left, and no check refuses it. Assumes nothing.
 use mathlib.Core.Path.{_≡_, refl, sym, ap, subst, _∙_}
 use mathlib.Core.Bool.{Bool, true, false, not, cond}
-use mathlib.Core.List.{List, [], _∷_, _++_, map, append-assoc, append-nil}
+use mathlib.Core.List.{List, [], _∷_, _++_, map, append-assoc, append-nil, map-append}
 use mathlib.Core.Option.{Option, none}
 use Prim.Native.Nat.{ℕ, suc, _+_, _≤_, _<_}
 use native.Mathlib.Omega.{arith}
@@ -26,7 +26,7 @@ use Rattle.forest.specs.Mended.{compact-all}
 use Rattle.forest.specs.Codec.{stored, Shared, Least, shared-all, least-all, long-shares, long-minima, long-children}
 use Rattle.forest.specs.Forest.{Forest, nil, leaf, node, roots, shown, Leafy, fine-shared, fine-least, Holds}
 use Rattle.forest.specs.Again.{names}
-use Rattle.build.specs.PushLaws.{map-append}
+use Rattle.forest.specs.Nodes.{leafy-panes}
 use Rattle.checks.specs.SplitLaws.{split-good}
 use Rattle.roundtrip.specs.Write.{rowOfNode, nodeShares, nodeMinima}
 use Rattle.roundtrip.specs.ReadBack.{front}
@@ -70,12 +70,6 @@ leaf-none (tabs b a qs) ps q l seen d =
     ap (λ (rs : List ℕ). tabsRefusal a rs seen) (front qs (l .panes) (length qs) refl .0)
     ∙ tabs-none a qs seen (q .1) (subst (λ (rs : List ℕ). Distinct (seen ++ rs)) (q .0) d)
 leaf-none (split a cs ss ms) ps q l seen d = absurd q
-
-leaf-panes : (n : Node) (ps : List ℕ) → Leafy n ps → panesOf n ≡ ps
-leaf-panes empty ps q = absurd q
-leaf-panes (pane p) ps q = sym q
-leaf-panes (tabs b a qs) ps q = sym (q .0)
-leaf-panes (split a cs ss ms) ps q = absurd q
 
 -- ---- nor a split
 
@@ -167,7 +161,7 @@ module _ (ns : List Node) where
   passes (leaf i _ _ ps r) h seen d rs l =
       let n = nodeAt ns i in
       let d′ : Distinct ((seen ++ ps) ++ shown r) = rw (append-assoc seen ps (shown r)) d in
-      row-on n (rows (names r) ++ rs) (feed r l) seen ps (leaf-none n ps (h .0 .leafy) (feed r l) seen (distinct-left (seen ++ ps) (shown r) d′)) (leaf-panes n ps (h .0 .leafy))
+      row-on n (rows (names r) ++ rs) (feed r l) seen ps (leaf-none n ps (h .0 .leafy) (feed r l) seen (distinct-left (seen ++ ps) (shown r) d′)) (leafy-panes n ps (h .0 .leafy))
       ∙ passes r (h .1) (seen ++ ps) d′ rs l ∙ ap (validate rs l) (append-assoc seen ps (shown r))
   passes (node i _ _ a c r) h seen d rs l =
       let n = nodeAt ns i in

@@ -1,6 +1,6 @@
 -- What is built from a normal forest's own table is that forest, with its tiles renumbered in reading order. Assumes nothing.
 use mathlib.Core.Path.{_≡_, refl, sym, ap, _∙_}
-use mathlib.Core.List.{List, [], _∷_, _++_, append-assoc, append-nil}
+use mathlib.Core.List.{List, [], _∷_, _++_, append-assoc, append-nil, map-append}
 use Prim.Native.Nat.{ℕ, zero, suc, _+_, _≤_}
 use native.Mathlib.Omega.{arith}
 use lib.ListN.{length, set, length-append}
@@ -16,7 +16,6 @@ use Rattle.rules.specs.declared.model.Axis.{Axis}
 use Rattle.forest.specs.Codec.{stored, long-children}
 use Rattle.forest.specs.Forest.{Forest, nil, leaf, node, roots, tiles, Leafy, Holds}
 use Rattle.forest.specs.Again.{names, heads}
-use Rattle.build.specs.PushLaws.{map-append}
 use Rattle.roundtrip.specs.Write.{rowOfNode}
 use Rattle.roundtrip.specs.ReadBack.{front}
 use Rattle.roundtrip.specs.Passes.{before, after-node, rows, feed}

@@ -18,9 +18,9 @@ use Rattle.forest.specs.Lists.{All}
 use Rattle.forest.specs.Codec.{stored, long-children}
 use Rattle.forest.specs.Forest.{Forest, nil, leaf, node, roots, tiles, shown, Leafy, Fine, Holds}
 use Rattle.forest.specs.Bools.{or-left, or-right}
+use Rattle.forest.specs.Actions.{all-narrow}
 use Rattle.accepted.specs.Sprout.{upFrom}
 use Rattle.roundtrip.specs.Write.{rowOfNode}
-use Rattle.roundtrip.specs.Written.{node-narrow}
 use Rattle.roundtrip.specs.Passes.{rows}
 use Rattle.roundtrip.specs.Renumber.{renumber, same-shares, same-minima, nodesFor, nodes-count}
 
@@ -116,12 +116,12 @@ module _ (ns : List Node) (slim : anyOf wideNode ns ≡ false) where
   stored-slim : (i : ℕ) (c : Forest) (x : TileId) (a : Axis) → nodeAt ns x ≡ stored a (roots c) → wideNode (stored a (roots (renumber i c))) ≡ false
   stored-slim i c x a is =
       (λ z. (ltb 16 ((long-children (roots (renumber i c)) ∙ roots-count i c ∙ sym (long-children (roots c))) z) || wideList (same-shares i c z)) || wideList (compactConstraints (same-minima i c z)))
-      ∙ sym (ap wideNode is) ∙ node-narrow ns slim (x .slot)
+      ∙ sym (ap wideNode is) ∙ all-narrow ns slim (x .slot)
 
   pub slim-new : (f : Forest) → Holds ns f → (i : ℕ) → anyOf wideNode (nodesFor ns i f) ≡ false
   unfolding anyOf
   slim-new nil h i = refl
-  slim-new (leaf x s m ps r) h i = ap (λ (b : Bool). b || anyOf wideNode (nodesFor ns (suc i) r)) (node-narrow ns slim (x .slot)) ∙ slim-new r (h .1) (suc i)
+  slim-new (leaf x s m ps r) h i = ap (λ (b : Bool). b || anyOf wideNode (nodesFor ns (suc i) r)) (all-narrow ns slim (x .slot)) ∙ slim-new r (h .1) (suc i)
   slim-new (node x s m a c r) h i =
       let under = nodesFor ns (suc i) c in
       let beside = nodesFor ns (suc i + length (tiles c)) r in
@@ -136,4 +136,4 @@ module _ (ns : List Node) (slim : anyOf wideNode ns ≡ false) where
   pub rows-slim : (xs : List TileId) → anyOf wideRow (rows ns xs) ≡ false
   unfolding anyOf
   rows-slim [] = refl
-  rows-slim (x ∷ xs) = ap (λ (b : Bool). b || anyOf wideRow (rows ns xs)) (row-slim (nodeAt ns x) (node-narrow ns slim (x .slot))) ∙ rows-slim xs
+  rows-slim (x ∷ xs) = ap (λ (b : Bool). b || anyOf wideRow (rows ns xs)) (row-slim (nodeAt ns x) (all-narrow ns slim (x .slot))) ∙ rows-slim xs

@@ -24,10 +24,11 @@ use Rattle.forest.specs.Again.{names, names-long}
 use Rattle.forest.specs.Grow.{nothing, group, branch, keptOf, stem}
 use Rattle.forest.specs.Grow as Grow
 use Rattle.forest.specs.Settled.{Tidy, unchanged, tidy-fixed}
+use Rattle.forest.specs.Along.{along}
 use Rattle.build.specs.SlotsLoop.{any-replicate}
 use Rattle.accepted.specs.Sprout.{upFrom, up-distinct}
 use Rattle.accepted.specs.Accepted.{no-more}
-use Rattle.roundtrip.specs.Write.{nodeShares, nodeMinima, along, tableAlong, toSpec}
+use Rattle.roundtrip.specs.Write.{nodeShares, nodeMinima, tableAlong, toSpec}
 use Rattle.roundtrip.specs.Written.{Numbers, order-is, one-root, written-reads, written-panes}
 use Rattle.roundtrip.specs.Passes.{before, rows, feed, passes}
 use Rattle.roundtrip.specs.Renumber.{renumber, same-count, nodesFor, nodes-count, grows}

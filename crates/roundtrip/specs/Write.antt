@@ -8,6 +8,7 @@ use Rattle.rules.specs.Tree.{Node, empty, pane, tabs, split, Arena, nodeAt, pan
 use Rattle.rules.specs.Table.{Row, paneRow, tabsRow, splitRow, Table}
 use Rattle.rules.specs.declared.model.TileId.{TileId}
 use Rattle.rules.specs.declared.model.TabBarPlacement.the-variants.{Hidden}
+use Rattle.forest.specs.Along.{along}
 
 -- ---- bytes
 
@@ -60,11 +61,6 @@ nodeMinima empty = []
 nodeMinima (pane p) = []
 nodeMinima (tabs b a ps) = []
 nodeMinima (split a cs ss ms) = ms
-
--- what each tile has, one after the other
-unfoldable pub along : {A : Type 0} → (Node → List A) → List Node → List TileId → List A
-along f ns [] = []
-along f ns (x ∷ xs) = f (nodeAt ns x) ++ along f ns xs
 
 abbrev pub tableAlong : List Node → List TileId → Table
 tableAlong ns xs = record { rows = map (λ x. rowOfNode (nodeAt ns x)) xs; panes = along panesOf ns xs; shares = along nodeShares ns xs; minima = along nodeMinima ns xs }

@@ -2,16 +2,16 @@
 -- in the same order. Assumes nothing.
 use mathlib.Core.Path.{_≡_, refl, sym, ap, subst, _∙_}
 use mathlib.Core.Bool.{Bool, true, false, _&&_, _||_}
-use mathlib.Core.List.{List, [], _∷_, _++_, map, append-assoc, append-nil}
+use mathlib.Core.List.{List, [], _∷_, _++_, map, append-assoc, append-nil, map-append}
 use mathlib.Core.Option.{some}
 use Prim.Native.Nat.{ℕ, zero, suc, _+_, _*_, _≤_}
 use native.Mathlib.Omega.{arith}
 use borrow.Author.Tests.{eq-eqb, ltb-false}
-use lib.ListN.{length, getD, length-append, length-map}
+use lib.ListN.{length, length-append, length-map}
 use lib.Ieee.{Float}
 use Rattle.rules.specs.Lists.{anyOf, wideList}
 use Rattle.rules.specs.Tree.{Node, empty, pane, tabs, split, Arena, nodeAt, panesOf, wideNode, readingFrom}
-use Rattle.rules.specs.Target.{panesAlong, panesIn}
+use Rattle.rules.specs.Target.{panesIn}
 use Rattle.rules.specs.Table.{Row, panesUsed, sharesUsed, minimaUsed, childrenUsed, sumRows, preorder, readTable}
 use Rattle.rules.specs.Spec.{fromSpec}
 use Rattle.rules.specs.declared.model.TileId.{TileId}
@@ -22,9 +22,10 @@ use Rattle.forest.specs.Forest.{Forest, nil, leaf, node, roots, Leafy, Holds}
 use Rattle.forest.specs.Again.{names, names-long}
 use Rattle.forest.specs.Grow.{Left, nothing, group, branch, keptOf, stem}
 use Rattle.forest.specs.Settled.{Tidy, reads}
-use Rattle.build.specs.PushLaws.{map-append}
 use Rattle.forest.specs.Bools.{or-left, or-right}
-use Rattle.roundtrip.specs.Write.{rowOfNode, nodeShares, nodeMinima, along, tableAlong, tableOfTree, toSpec}
+use Rattle.forest.specs.Actions.{all-narrow}
+use Rattle.forest.specs.Along.{panes-along, along}
+use Rattle.roundtrip.specs.Write.{rowOfNode, nodeShares, nodeMinima, tableAlong, tableOfTree, toSpec}
 use Rattle.roundtrip.specs.ReadBack.{Bytes, RowFits, Real, Writable, bytes-fit, read-back}
 use Rattle.accepted.specs.Accepted.{accepted-panes}
 
@@ -62,11 +63,6 @@ minima-used (pane p) = refl
 minima-used (tabs b a ps) = refl
 minima-used (split a cs ss ms) = refl
 
-along-panes : (ns : List Node) (xs : List TileId) → along panesOf ns xs ≡ panesAlong ns xs
-unfolding along panesAlong
-along-panes ns [] = refl
-along-panes ns (x ∷ xs) = ap (λ (l : List ℕ). panesOf (nodeAt ns x) ++ l) (along-panes ns xs)
-
 -- ---- and stand in preorder
 
 leafy-row : (n : Node) (ps : List ℕ) → Leafy n ps → childrenUsed (rowOfNode n) ≡ 0
@@ -96,12 +92,6 @@ module _ (ns : List Node) where
       ∙ in-order r (h .2) k m rest (omega (arith, e))
 
 -- ---- narrow nodes have numbers of two bytes
-
-pub node-narrow : (ns : List Node) → anyOf wideNode ns ≡ false → (i : ℕ) → wideNode (getD ns i empty) ≡ false
-unfolding anyOf
-node-narrow [] w i = refl
-node-narrow (n ∷ ns) w zero = or-left (wideNode n) (anyOf wideNode ns) w
-node-narrow (n ∷ ns) w (suc i) = node-narrow ns (or-right (wideNode n) (anyOf wideNode ns) w) i
 
 few-panes : (n : Node) → wideNode n ≡ false → length (panesOf n) ≤ 16
 few-panes empty w = omega arith
@@ -155,9 +145,9 @@ pub record Numbers (ns : List Node) (xs : List TileId) : Type 0 where
 module _ (ns : List Node) (narrow : anyOf wideNode ns ≡ false) where
   rows-fit-bytes : (f : Forest) → Holds ns f → All (λ x. RowFits (rowOfNode (nodeAt ns x))) (names f)
   rows-fit-bytes nil h = tt
-  rows-fit-bytes (leaf i _ _ ps r) h = (leaf-fits (nodeAt ns i) ps (h .0 .leafy) (node-narrow ns narrow (i .slot)), rows-fit-bytes r (h .1))
+  rows-fit-bytes (leaf i _ _ ps r) h = (leaf-fits (nodeAt ns i) ps (h .0 .leafy) (all-narrow ns narrow (i .slot)), rows-fit-bytes r (h .1))
   rows-fit-bytes (node i _ _ a c r) h = (
-    split-fits (nodeAt ns i) a _ _ _ (h .0 .is) (node-narrow ns narrow (i .slot)),
+    split-fits (nodeAt ns i) a _ _ _ (h .0 .is) (all-narrow ns narrow (i .slot)),
     all-append (λ x. RowFits (rowOfNode (nodeAt ns x))) (names c) (names r) (rows-fit-bytes c (h .1)) (rows-fit-bytes r (h .2)),
   )
 
@@ -174,9 +164,9 @@ module _ (ns : List Node) (narrow : anyOf wideNode ns ≡ false) where
       let ss = used nodeShares sharesUsed shares-used ns xs in
       let ms = used nodeMinima minimaUsed minima-used ns xs in
       let rows-long = length-map xs (λ x. rowOfNode (nodeAt ns x)) in
-      let panes-long = along-few panesOf ns (λ x. few-panes (nodeAt ns x) (node-narrow ns narrow (x .slot))) xs in
-      let shares-long = along-few nodeShares ns (λ x. few-shares (nodeAt ns x) (node-narrow ns narrow (x .slot))) xs in
-      let minima-long = along-few nodeMinima ns (λ x. few-minima (nodeAt ns x) (node-narrow ns narrow (x .slot))) xs in
+      let panes-long = along-few panesOf ns (λ x. few-panes (nodeAt ns x) (all-narrow ns narrow (x .slot))) xs in
+      let shares-long = along-few nodeShares ns (λ x. few-shares (nodeAt ns x) (all-narrow ns narrow (x .slot))) xs in
+      let minima-long = along-few nodeMinima ns (λ x. few-minima (nodeAt ns x) (all-narrow ns narrow (x .slot))) xs in
       record {
         fit = λ i. fits-all (ordered i) (eq-eqb _ _ ps i) (eq-eqb _ _ ss i) (eq-eqb _ _ ms i);
         rows = all-rows xs (rows-fit-bytes f h);
@@ -214,4 +204,4 @@ module _ (a : Arena) (l : Left) (T : Tidy (a .nodes) (a .root) l) (narrow : anyO
 
   -- and a tree that is built from it has the same panes in the same order
   pub written-panes : fromSpec (toSpec a) .answer ≡ Accepted → panesIn (fromSpec (toSpec a) .tree .root) (fromSpec (toSpec a) .tree .nodes) ≡ panesIn (a .root) (a .nodes)
-  written-panes e = accepted-panes (toSpec a) e (tableOfTree a) written-reads ∙ along-panes (a .nodes) (readingFrom (a .nodes) (a .root))
+  written-panes e = accepted-panes (toSpec a) e (tableOfTree a) written-reads ∙ panes-along (a .nodes) (readingFrom (a .nodes) (a .root))

@@ -11,6 +11,7 @@ use lib.Ieee.{Float}
 use Rattle.rules.specs.Lists.{allOf, sameList}
 use Rattle.rules.specs.Tree.{Node, empty, isEmpty, emptyGroup, barCode, sameNode}
 use Rattle.rules.specs.Sound.{loneEmptyRoot}
+use Rattle.forest.specs.Nodes.{past}
 use Rattle.forest.specs.Still.{noneLost}
 use Rattle.columns.specs.Columns.{barFrom, nodeBy, nodesFrom}
 use Rattle.columns.specs.Pack.{NoneLost}
@@ -56,11 +57,6 @@ kept-one (suc n) zero (x ∷ ns) e = kept-none n ns (omega arith)
 kept-one (suc n) (suc i) (x ∷ ns) e = ap (λ (b : Bool). isEmpty x && b) (kept-one n i ns (omega arith))
 
 -- ---- the root
-
-past : (ns : List Node) (i : ℕ) → length ns ≤ i → getD ns i empty ≡ empty
-past [] i h = refl
-past (n ∷ ns) zero h = absurd (omega arith)
-past (n ∷ ns) (suc i) h = past ns i (omega arith)
 
 module _ (root v : ℕ) (hs xs : List (List ℕ)) (ss ms : List (List Float)) (P : Plain hs xs ss ms) where
   abbrev ns : List Node

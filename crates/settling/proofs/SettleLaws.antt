@@ -13,8 +13,6 @@ use Rattle.rules.specs.Lists.{anyOf}
 use Rattle.rules.specs.Tree.{Node, Arena, tile, setNode, emptySlots, emptyGroup, wideNode}
 use Rattle.rules.specs.Repair.{Out, begin, normalizeNode, Repaired, refusedRepair, repair}
 use Rattle.rules.specs.declared.model.RepairAction.{RepairAction}
-use Rattle.rules.specs.declared.refusal.Answer.{Answer}
-use Rattle.rules.specs.declared.refusal.Answer.the-variants.{Accepted, Refused}
 use Rattle.rules.specs.declared.refusal.Refusal.{Refusal}
 use Rattle.rules.specs.declared.refusal.Refusal.the-variants.{ArenaFull, TooWide}
 use Rattle.forest.specs.Lists.{All}
@@ -28,16 +26,13 @@ use Rattle.columns.specs.Columns.{nodesFrom, Slim, codeOf, Lists}
 use Rattle.columns.specs.ColumnLaws.{nodes-head, slim-set}
 use Rattle.columns.specs.Pack.{overHead, overKind, overOf, firstOf}
 use Rattle.forest.specs.Bools.{or-left}
+use Rattle.forest.specs.Answers.{not-both}
 use Rattle.columns.specs.OverLaws.{none-over}
 use Rattle.columns.specs.Shown.{arenaFrom, Plain}
 use Rattle.settling.specs.Settle.{Left, Comes, Settles, Mends, Refuses, Finishes, blankHead, Plants}
 use Rattle.settling.specs.declared.Settled.{Settled}
 use Rattle.settling.proofs.StartLaws.{narrow-in, narrow-set, start, start-shows}
 use Rattle.settling.proofs.PlainLaws.{plain-over, plain-long}
-
--- an answer is not both
-pub not-both : {x : Answer} {f : Refusal} → x ≡ Accepted → x ≡ Refused f → ⊥
-not-both p q = let z : _≡_ {A = ℕ} 0 1 = cc in omega arith
 
 -- ---- slim heads have no list over 16, used or not
 
@@ -66,13 +61,13 @@ room-left D S = omega (arith, S .listing)
 -- ---- refused, whatever the columns are then
 
 refused-left : (hs xs : List (List ℕ)) (ss ms : List (List Float)) (e : Refusal) (r : Settled) → Refuses e r → Left hs xs ss ms r
-refused-left hs xs ss ms e r R = record { count = omega (arith, R .count); plain = λ a. absurd (not-both a (R .answer)); whole = λ a. absurd (not-both a (R .answer)) }
+refused-left hs xs ss ms e r R = record { count = omega (arith, R .count); plain = λ a. not-both a (R .answer); whole = λ a. not-both a (R .answer) }
 
 refused-comes : (a : Arena) (x : Repaired) (hs xs : List (List ℕ)) (ss ms : List (List Float)) (acts : List (List ℕ)) (e : Refusal) (r : Settled) → Refuses e r → x ≡ refusedRepair e a → Comes a x hs xs ss ms acts r
 refused-comes a x hs xs ss ms acts e r R q =
     record {
       answer = R .answer ∙ sym (ap (λ (y : Repaired). y .answer) q);
-      tree = λ p. absurd (not-both p (R .answer));
+      tree = λ p. not-both p (R .answer);
       actions = λ whole. (λ z. take (R .count z) acts) ∙ sym (ap (λ (y : Repaired). map codeOf (y .actions)) q);
       given = λ f p. (ap (λ (y : Repaired). y .tree) q, ap (λ (y : Repaired). y .actions) q);
     }
@@ -99,7 +94,7 @@ module _ (gs xs : List (List ℕ)) (ss ms : List (List Float)) (cs : List Bool) 
         answer = F .answer ∙ sym (ap (λ (y : Repaired). y .answer) q);
         tree = λ p. ap (λ (y : Repaired). y .tree) q ∙ (λ z. record { root = tile (sym (F .under) z); revision = a .revision; nodes = nodes z; over = over z });
         actions = subst (λ (y : Repaired). Lists acts′ (r .count) (y .actions)) (sym q) (S .lists xs ss ms lx ls lm l g);
-        given = λ f p. absurd (not-both (F .answer) p);
+        given = λ f p. not-both (F .answer) p;
       }
 
 -- ---- the walk ended, with the arrays D

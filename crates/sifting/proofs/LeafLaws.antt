@@ -6,7 +6,6 @@ use mathlib.Core.Option.{Option, none, some}
 use Prim.Native.Nat.{ℕ, zero, suc, _+_, _≤_, _<_}
 use native.Mathlib.Numerals.{add-one}
 use native.Mathlib.Omega.{arith}
-use native.Mathlib.Nat.{not-suc-le-zero, le-of-suc-le-suc}
 use lib.Dec.{eqb}
 use lib.Ieee.{Float}
 use lib.ListN.{length, take, drop, getD, getElem?, set, length-set, length-take, drop-of-length-le}
@@ -20,7 +19,7 @@ use Rattle.rules.specs.declared.model.TabBarPlacement.{TabBarPlacement}
 use Rattle.rules.specs.declared.model.RepairAction.the-variants.{RemovedInvalidNode, RepairedActiveTab, RemovedDuplicatePane}
 use Rattle.forest.specs.Lists.{free, free-set}
 use Rattle.forest.specs.Grow.{retained}
-use Rattle.forest.specs.Again.{tile-by}
+use Rattle.forest.specs.Again.{tile-by, element-at, element-past}
 use Rattle.lists.specs.Exact.{IsIds, Pushed}
 use Rattle.lists.specs.Build.{exactly-push}
 use Rattle.lists.specs.Find.{placeOf}
@@ -37,24 +36,14 @@ use Rattle.columns.specs.ColumnLaws.{nodes-at, nodes-head, nodes-row, slim-set}
 
 -- ---- the active pane, found again
 
-elem-past : (xs : List ℕ) (n : ℕ) → length xs ≤ n → getElem? xs n ≡ none
-elem-past [] n h = refl
-elem-past (x ∷ xs) zero h = absurd (not-suc-le-zero h)
-elem-past (x ∷ xs) (suc n) h = elem-past xs n (le-of-suc-le-suc h)
-
-elem-at : (xs : List ℕ) (n : ℕ) → n < length xs → getElem? xs n ≡ some (getD xs n 0)
-elem-at [] n h = absurd (not-suc-le-zero h)
-elem-at (x ∷ xs) zero h = refl
-elem-at (x ∷ xs) (suc n) h = elem-at xs n (le-of-suc-le-suc h)
-
 pub active-past : (len active : ℕ) (at kept : List ℕ) → len ≤ active → 0 ≡ activeOf (getElem? (take len at) active) kept
-active-past len active at kept h = sym (ap (λ (o : Option ℕ). activeOf o kept) (elem-past (take len at) active (omega (arith, length-take len at))))
+active-past len active at kept h = sym (ap (λ (o : Option ℕ). activeOf o kept) (element-past (take len at) active (omega (arith, length-take len at))))
 
 pub active-at : (len active : ℕ) (at kept : List ℕ) (x : ℕ) (p : Place) → len ≤ length at → active < len → x ≡ getD (take len at) active 0
     → placeOf p ≡ position (eqb x) kept → orFirst (placeOf p) ≡ activeOf (getElem? (take len at) active) kept
 active-at len active at kept x p l h e q =
     ap orFirst q ∙ ap (λ (y : ℕ). orFirst (position (eqb y) kept)) e
-    ∙ sym (ap (λ (o : Option ℕ). activeOf o kept) (elem-at (take len at) active (omega (arith, length-take-le len at l))))
+    ∙ sym (ap (λ (o : Option ℕ). activeOf o kept) (element-at (take len at) active (omega (arith, length-take-le len at l))))
 
 -- ---- the panes of a group, one after the other
 

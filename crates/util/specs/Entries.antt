@@ -37,12 +37,6 @@ fix-zero : zero-f ≡ fixMinimum zero-f
 unfolding fixMinimum le eq
 fix-zero = refl
 
-pub length-aligned : (n : ℕ) (ms : List Float) → length (alignedConstraints n ms) ≡ n
-unfolding alignedConstraints
-length-aligned zero ms = refl
-length-aligned (suc n) [] = ap suc (length-aligned n [])
-length-aligned (suc n) (m ∷ ms) = ap suc (length-aligned n ms)
-
 pub aligned-at : (n : ℕ) (ms : List Float) (j : ℕ) → j < n → getD (alignedConstraints n ms) j zero-f ≡ fixMinimum (getD ms j zero-f)
 unfolding alignedConstraints
 aligned-at zero ms j h = absurd (omega arith)
@@ -68,12 +62,6 @@ unfolding leastAt
 least-missing [] f j h = refl
 least-missing (m ∷ ms) f zero h = absurd (omega arith)
 least-missing (m ∷ ms) f (suc j) h = least-missing ms f j (le-of-suc-le-suc h)
-
-pub length-minMajor : (n : ℕ) (ms : List Float) (f : Float) → length (minMajor n ms f) ≡ n
-unfolding minMajor
-length-minMajor zero ms f = refl
-length-minMajor (suc n) [] f = ap suc (length-minMajor n [] f)
-length-minMajor (suc n) (m ∷ ms) f = ap suc (length-minMajor n ms f)
 
 pub minMajor-at : (n : ℕ) (ms : List Float) (f : Float) (j : ℕ) → j < n → getD (minMajor n ms f) j zero-f ≡ leastAt ms f j
 unfolding minMajor leastAt

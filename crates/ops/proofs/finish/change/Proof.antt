@@ -5,8 +5,9 @@ use native.Mathlib.Omega.{arith}
 use native.Mathlib.Numerals.{add-one}
 use Rattle.rules.specs.Operations.{finish, Applied, last-revision}
 use Rattle.rules.specs.declared.refusal.Refusal.the-variants.{RevisionExhausted}
-use Rattle.docking.proofs.FinishLaws.{even-plain, plain-even, comes-refused, comes-new, last-refused, change-taken, change-refused}
+use Rattle.docking.proofs.FinishLaws.{comes-refused, comes-new, last-refused, change-taken, change-refused}
 use Rattle.rules.specs.Operations as Rule
+use Rattle.columns.specs.RowLaws.{even-plain, plain-even}
 use borrow.Author.Needs.{needs}
 use Rattle.ops.proofs.finish.change.Statement.{statement}
 use Rattle.ops.proofs.finish.change.Tie as tie

@@ -9,8 +9,7 @@ use Rattle.rules.specs.Tree.{reals}
 use Rattle.rules.specs.Minima.{compactConstraints}
 use Rattle.rules.specs.Insert.{dividedShares}
 use Rattle.lists.specs.Build.{exactly-is}
-use Rattle.util.specs.Entries.{length-aligned}
-use Rattle.melting.proofs.SplitLaws.{repaired-length}
+use Rattle.forest.specs.Lengths.{repaired-length, aligned-length}
 use Rattle.nodes.specs.Parts.{besideOf}
 use Rattle.nodes.proofs.SplitLaws.{index-within, inserted-is}
 use borrow.Author.Needs.{needs}
@@ -41,7 +40,7 @@ insert-requires-2 : tie.Need-insert-requires-2
 insert-requires-2 c κs =
     let i = c .before .before .before .before in
     let h = i .before .before .before .before in
-    let e = c .aligned-constraints .ensures .size ∙ length-aligned (h .args .s .children .len) (reals (h .args .s .minima)) in
+    let e = c .aligned-constraints .ensures .size ∙ aligned-length (h .args .s .children .len) (reals (h .args .s .minima)) in
     (subst (λ (k : ℕ). k ≤ c .aligned-constraints .result .len) (sym (i .insert-index .ensures)) (omega (arith, e, index-within (h .args .b .placement) (h .args .index) (h .args .s .children .len) (h .pre .0))), omega (arith, e, h .pre .1))
 
 compact-constraints-requires : tie.Need-compact-constraints-requires

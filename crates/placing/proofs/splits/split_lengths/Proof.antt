@@ -3,7 +3,7 @@ use mathlib.Core.Path.{sym, ap, _∙_}
 use lib.ListN.{getD, take}
 use Rattle.rules.specs.Minima.{splitMinMajor}
 use Rattle.rules.specs.Solver.{Lengths, solveLengthsWithMin}
-use Rattle.placing.proofs.PlaceLaws.{repaired-length, least-length}
+use Rattle.forest.specs.Lengths.{repaired-length, minima-length}
 use borrow.Author.Needs.{needs}
 use Rattle.placing.proofs.splits.split_lengths.Statement.{statement}
 use Rattle.placing.proofs.splits.split_lengths.Tie as tie
@@ -36,7 +36,7 @@ solve-lengths-with-min-requires c κs =
     let a = c .before .before .before .before .args in
     let n = getD (a .t1) 4 0 in (
       s .few,
-      l .size ∙ least-length n (take (getD (a .t1) 6 0) (a .minima)) (c .before .major-size .result) ∙ sym (s .size ∙ repaired-length n (take (getD (a .t1) 5 0) (a .shares))),
+      l .size ∙ minima-length n (take (getD (a .t1) 6 0) (a .minima)) (c .before .major-size .result) ∙ sym (s .size ∙ repaired-length n (take (getD (a .t1) 5 0) (a .shares))),
     )
 
 measured-requires : tie.Need-measured-requires

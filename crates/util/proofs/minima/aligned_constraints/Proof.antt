@@ -4,12 +4,13 @@ use Prim.Native.Nat.{_-_}
 use native.Mathlib.Omega.{arith}
 use borrow.Author.Needs.{needs}
 use lib.Ieee.{ofBits}
+use Rattle.forest.specs.Lengths.{aligned-length}
 use Rattle.rules.specs.Numbers.{zero-f}
 use Rattle.rules.specs.Tree.{reals}
 use Rattle.rules.specs.Minima.{fixMinimum, alignedConstraints}
 use Rattle.lists.specs.Exact.{padTo}
 use Rattle.lists.specs.Build.{Building, building-start, building-more, building-done}
-use Rattle.util.specs.Entries.{length-aligned, aligned-at}
+use Rattle.util.specs.Entries.{aligned-at}
 use Rattle.util.proofs.minima.aligned_constraints.Statement.{statement}
 use Rattle.util.proofs.minima.aligned_constraints.Tie as tie
 
@@ -23,7 +24,7 @@ loop-holds : tie.Need-loop-holds Inv-loop μ-loop
 unfolding padTo ofBits
 loop-holds c =
     let a = c .args in
-    building-start zero-f (alignedConstraints (a .count) (reals (a .minima))) _ (a .count) (sym (length-aligned (a .count) (reals (a .minima)))) (omega arith) refl
+    building-start zero-f (alignedConstraints (a .count) (reals (a .minima))) _ (a .count) (sym (aligned-length (a .count) (reals (a .minima)))) (omega arith) refl
 
 get-requires : tie.Need-get-requires Inv-loop μ-loop
 get-requires c κs = search needs

@@ -3,12 +3,13 @@ use mathlib.Core.Path.{refl, sym, _∙_}
 use Prim.Native.Nat.{_-_}
 use native.Mathlib.Omega.{arith}
 use lib.Ieee.{ofBits}
+use Rattle.forest.specs.Lengths.{major-length}
 use Rattle.rules.specs.Numbers.{zero-f}
 use Rattle.rules.specs.Tree.{reals}
 use Rattle.rules.specs.Minima.{minMajor}
 use Rattle.lists.specs.Exact.{padTo}
 use Rattle.lists.specs.Build.{Building, building-start, building-more, building-done}
-use Rattle.util.specs.Entries.{length-minMajor, minMajor-at}
+use Rattle.util.specs.Entries.{minMajor-at}
 use Rattle.util.proofs.minima.min_major.Statement.{statement}
 use Rattle.util.proofs.minima.min_major.Tie as tie
 
@@ -22,7 +23,7 @@ loop-holds : tie.Need-loop-holds Inv-loop μ-loop
 unfolding padTo ofBits
 loop-holds c =
     let a = c .args in
-    building-start zero-f (minMajor (a .count) (reals (a .minima)) (a .fallback)) _ (a .count) (sym (length-minMajor (a .count) (reals (a .minima)) (a .fallback))) (omega arith) refl
+    building-start zero-f (minMajor (a .count) (reals (a .minima)) (a .fallback)) _ (a .count) (sym (major-length (a .count) (reals (a .minima)) (a .fallback))) (omega arith) refl
 
 least-at-requires : tie.Need-least-at-requires Inv-loop μ-loop
 least-at-requires c κs = omega arith
