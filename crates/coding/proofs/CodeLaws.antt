@@ -1,22 +1,17 @@
 -- Laws of the codes: what each test of a number says, by what the branches of the code know. Assumes nothing.
 use mathlib.Core.Path.{_≡_, refl, sym, ap}
 use mathlib.Core.Bool.{Bool, true, false, _&&_}
-use mathlib.Core.List.{List, [], _∷_, map}
+use mathlib.Core.List.{List}
 use Prim.Native.Nat.{ℕ, zero, suc, _≤_, _<_}
 use native.Mathlib.Omega.{arith}
 use borrow.Author.Tests.{lt-ltb, le-ltb}
 use lib.Dec.{ltb}
-use Rattle.rules.specs.Lists.{allOf}
 use Rattle.rules.specs.Tree.{barCode, axisCode}
 use Rattle.rules.specs.declared.model.Axis.{Axis}
 use Rattle.rules.specs.declared.model.Axis.the-variants.{Horizontal, Vertical}
 use Rattle.rules.specs.declared.model.TabBarPlacement.{TabBarPlacement}
 use Rattle.rules.specs.declared.model.TabBarPlacement.the-variants.{Hidden, Top, Bottom, Left, Right}
-use Rattle.rules.specs.declared.model.Kind.{Kind}
-use Rattle.rules.specs.declared.model.Kind.the-variants.{Empty, Pane, Tabs, Split}
-use Rattle.rules.specs.declared.model.Slot.{Slot}
-use Rattle.columns.specs.Pack.{headBy, headOf}
-use Rattle.coding.specs.Lent.{modeOk, codeOk, codesOk, targetOk, whatOk}
+use Rattle.coding.specs.Lent.{modeOk, targetOk, whatOk}
 
 -- ---- a head's kind and mode
 
@@ -43,17 +38,6 @@ bar-ok Right = refl
 pub axis-ok : (a : Axis) → ltb (axisCode a) 2 ≡ true
 axis-ok Horizontal = refl
 axis-ok Vertical = refl
-
-head-ok : (k : Kind) (s : Slot) → codeOk (headBy k s) ≡ true
-head-ok Empty s = refl
-head-ok (Pane p) s = refl
-head-ok (Tabs b) s = bar-ok b
-head-ok (Split a) s = axis-ok a
-
-pub heads-ok : (ss : List Slot) → codesOk (map headOf ss) ≡ true
-unfolding allOf
-heads-ok [] = refl
-heads-ok (s ∷ ss) = λ z. head-ok (s .kind) s z && heads-ok ss z
 
 -- ---- an operation's words
 

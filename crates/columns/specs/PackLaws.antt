@@ -6,7 +6,7 @@ use Prim.Native.Nat.{ℕ, zero, suc, _+_, _≤_, _<_}
 use native.Mathlib.Omega.{arith}
 use native.Mathlib.Nat.{not-suc-le-zero, le-of-suc-le-suc}
 use native.Mathlib.Numerals.{add-one}
-use borrow.Author.Tests.{ltb-false, ne-eqb, eq-eqb, not-true, not-false}
+use borrow.Author.Tests.{ne-eqb, eq-eqb, not-true, not-false}
 use lib.Dec.{eqb, ltb}
 use lib.Ieee.{Float}
 use lib.ListN.{length, take, drop, getD, set, replicate, length-set, length-map, length-replicate, drop-of-length-le}
@@ -32,7 +32,6 @@ use Rattle.columns.specs.Pack.{headBy, headOf, slotOf, idsBy, idsOf, sha
 use Rattle.columns.specs.declared.Listed.{Listed}
 use Rattle.columns.specs.ColumnLaws.{nodes-long, nodes-at, split-of}
 use Rattle.columns.specs.OverLaws.{over-split, any-alike}
-use Rattle.forest.specs.Bools.{or-left, or-right}
 
 -- ---- a loop that fills an array from the front with the entries of another list
 
@@ -131,24 +130,6 @@ pub unpacked : (ss : List Slot) → nodesFrom (map headOf ss) (map idsOf ss) (ma
 unfolding nodesFrom
 unpacked [] = refl
 unpacked (s ∷ ss) = λ z. node-back (s .kind) s z ∷ unpacked ss z
-
--- no list too long was given
-slim-one : (k : Kind) (s : Slot) → overBy k s ≡ false → Slim (headBy k s)
-slim-one Empty s e = (omega arith, omega arith, omega arith)
-slim-one (Pane p) s e = (omega arith, omega arith, omega arith)
-slim-one (Tabs b) s e = (ltb-false 16 (s .panes .len) e, omega arith, omega arith)
-slim-one (Split a) s e =
-    let c = ltb 16 (s .children .len) in
-    let h = ltb 16 (s .shares .len) in
-    let m = ltb 16 (s .minima .len) in
-    let l : (c || h) ≡ false = or-left (c || h) m e in
-    (ltb-false 16 (s .children .len) (or-left c h l), ltb-false 16 (s .shares .len) (or-right c h l), ltb-false 16 (s .minima .len) (or-right (c || h) m e))
-
-pub unpacked-slim : (ss : List Slot) → anyOf overSlot ss ≡ false → (i : ℕ) → Slim (getD (map headOf ss) i [])
-unfolding anyOf
-unpacked-slim [] e i = (omega arith, omega arith, omega arith)
-unpacked-slim (s ∷ ss) e zero = slim-one (s .kind) s (or-left (overSlot s) (anyOf overSlot ss) e)
-unpacked-slim (s ∷ ss) e (suc i) = unpacked-slim ss (or-right (overSlot s) (anyOf overSlot ss) e) i
 
 -- ---- columns to slots
 

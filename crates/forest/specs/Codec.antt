@@ -132,7 +132,3 @@ stored-fixed a es =
 pub fixed-shared : (es : List Entry) → All Shared (map (reshared fixShare) es)
 fixed-shared [] = tt
 fixed-shared (e ∷ es) = (fixShare-twice (e .share), fixed-shared es)
-
-pub fixed-same : (es : List Entry) → All Shared es → map (reshared fixShare) es ≡ es
-fixed-same [] a = refl
-fixed-same (e ∷ es) a = λ z. entry (e .child) (a .0 z) (e .minimum) ∷ fixed-same es (a .1) z

@@ -90,16 +90,6 @@ loosen-heads nil = refl
 loosen-heads (leaf i s m ps r) = ap (λ (l : List TileId). i ∷ l) (loosen-heads r)
 loosen-heads (node i s m a c r) = ap (λ (l : List TileId). i ∷ l) (loosen-heads r)
 
-pub loosen-tiles : (f : Forest) → tiles (loosen f) ≡ Normal.tiles f
-loosen-tiles nil = refl
-loosen-tiles (leaf i s m ps r) = ap (λ (l : List ℕ). i .slot ∷ l) (loosen-tiles r)
-loosen-tiles (node i s m a c r) = λ z. i .slot ∷ (loosen-tiles c z ++ loosen-tiles r z)
-
-pub loosen-shown : (f : Forest) → shown (loosen f) ≡ Normal.shown f
-loosen-shown nil = refl
-loosen-shown (leaf i s m ps r) = ap (λ (l : List ℕ). ps ++ l) (loosen-shown r)
-loosen-shown (node i s m a c r) = λ z. loosen-shown c z ++ loosen-shown r z
-
 leafy-shows : (n : Node) (ps : List ℕ) → Leafy n ps → Shows n ps
 leafy-shows empty ps l = l
 leafy-shows (pane p) ps l = l

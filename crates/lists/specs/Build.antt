@@ -11,27 +11,11 @@ use lib.Seq.{take-suc, take-all, length-take-le, take-suc-set, take-set-lt}
 use Rattle.lists.specs.Exact.{padTo, Exactly, Pushed, Replaced}
 
 module _ {A : Type 0} where
-  pub length-padTo : (n : ℕ) (d : A) (xs : List A) → length (padTo n d xs) ≡ n
-  unfolding padTo
-  length-padTo zero d xs = refl
-  length-padTo (suc n) d [] = ap suc (length-padTo n d [])
-  length-padTo (suc n) d (x ∷ xs) = ap suc (length-padTo n d xs)
-
   pub take-padTo : (n : ℕ) (d : A) (xs : List A) → length xs ≤ n → take (length xs) (padTo n d xs) ≡ xs
   unfolding padTo
   take-padTo n d [] h = refl
   take-padTo zero d (x ∷ xs) h = absurd (omega arith)
   take-padTo (suc n) d (x ∷ xs) h = ap (λ (l : List A). x ∷ l) (take-padTo n d xs (le-of-suc-le-suc h))
-
-  -- the padding is what a reader gets past the end
-  pub getD-padTo : (n : ℕ) (d : A) (xs : List A) (j : ℕ) → length xs ≤ n → getD (padTo n d xs) j d ≡ getD xs j d
-  unfolding padTo
-  getD-padTo zero d [] j h = refl
-  getD-padTo zero d (x ∷ xs) j h = absurd (omega arith)
-  getD-padTo (suc n) d [] zero h = refl
-  getD-padTo (suc n) d [] (suc j) h = getD-padTo n d [] j (omega arith)
-  getD-padTo (suc n) d (x ∷ xs) zero h = refl
-  getD-padTo (suc n) d (x ∷ xs) (suc j) h = getD-padTo n d xs j (le-of-suc-le-suc h)
 
   -- a store just past the entries is one entry more
   pub set-padTo : (n : ℕ) (d : A) (xs : List A) (x : A) → length xs < n → set (padTo n d xs) (length xs) x ≡ padTo n d (xs ++ x ∷ [])

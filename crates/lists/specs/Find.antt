@@ -1,6 +1,6 @@
--- The place of an entry: what the answer means, and the laws of position and contains. Assumes nothing.
+-- The place of an entry: what the answer means, and the laws of position. Assumes nothing.
 use mathlib.Core.Path.{_≡_, refl, sym, ap, _∙_, subst}
-use mathlib.Core.Bool.{Bool, true, false, _||_}
+use mathlib.Core.Bool.{Bool, true, false}
 use mathlib.Core.List.{List, [], _∷_}
 use mathlib.Core.Option.{Option, none, some}
 use Prim.Native.Nat.{ℕ, zero, suc, _+_, _-_, _≤_, _<_}
@@ -9,7 +9,7 @@ use native.Mathlib.Numerals.{add-one}
 use native.Mathlib.Omega.{arith}
 use lib.ListN.{length, drop, getD, drop-of-length-le}
 use lib.Seq.{drop-cons}
-use Rattle.rules.specs.Lists.{anyOf, firstBy, positionFrom, position, isSome}
+use Rattle.rules.specs.Lists.{firstBy, positionFrom, position}
 use Rattle.lists.specs.declared.Place.{Place}
 use Rattle.lists.specs.declared.Place.the-variants.{At, Nothing}
 
@@ -41,19 +41,6 @@ module _ {A : Type 0} (t : A → Bool) where
   pub passed-all : (xs : List A) (i : ℕ) → length xs ≤ i → Passed xs i → none ≡ position t xs
   unfolding positionFrom
   passed-all xs i h w = sym (ap (positionFrom i t) (drop-of-length-le xs h)) ∙ w
-
-  -- something is found exactly where some entry passes the test
-  some-from : (n : ℕ) (xs : List A) → isSome (positionFrom n t xs) ≡ anyOf t xs
-  unfolding positionFrom anyOf
-  some-from n [] = refl
-  some-from n (x ∷ xs) = by (t x) (some-from (suc n) xs)
-    where
-      by : (b : Bool) → isSome (positionFrom (suc n) t xs) ≡ anyOf t xs → isSome (firstBy b n (positionFrom (suc n) t xs)) ≡ (b || anyOf t xs)
-      by true e = refl
-      by false e = e
-
-  pub position-some : (xs : List A) → isSome (position t xs) ≡ anyOf t xs
-  position-some xs = some-from 0 xs
 
   -- what is found is a place of the list, and its entry passes the test
   found-from : (n : ℕ) (xs : List A) (i : ℕ) (d : A) → positionFrom n t xs ≡ some i → (n ≤ i) × (i < n + length xs) × (t (getD xs (i - n) d) ≡ true)

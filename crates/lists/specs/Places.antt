@@ -1,6 +1,5 @@
 -- Laws of insertAt, removeAt, take and tabulate: lengths, the entry at each place, membership. Assumes nothing.
 use mathlib.Core.Path.{_≡_, refl, sym, ap, _∙_}
-use mathlib.Core.Bool.{Bool, true, false, _&&_, _||_}
 use mathlib.Core.List.{List, [], _∷_, _++_, map}
 use mathlib.Core.Logic.{⊎-elim}
 use Prim.Native.Nat.{ℕ, zero, suc, _+_, _-_, _≤_, _<_}
@@ -8,19 +7,7 @@ use native.Mathlib.Nat.{le-of-suc-le-suc, eq-or-lt-of-le}
 use native.Mathlib.Omega.{arith}
 use lib.ListN.{length, take, getD, length-take, length-map, List·getD-eq-default, List·getD-append, length-append}
 use lib.Seq.{getD-take, length-take-le, getD-at}
-use Rattle.rules.specs.Lists.{insertAt, removeAt, anyOf, allOf, tabulate}
-
-or-swap : (a b c : Bool) → (a || (b || c)) ≡ (b || (a || c))
-or-swap true true c = refl
-or-swap true false c = refl
-or-swap false true c = refl
-or-swap false false c = refl
-
-and-swap : (a b c : Bool) → (a && (b && c)) ≡ (b && (a && c))
-and-swap true true c = refl
-and-swap true false c = refl
-and-swap false true c = refl
-and-swap false false c = refl
+use Rattle.rules.specs.Lists.{insertAt, removeAt, tabulate}
 
 -- an array of structs has its length as that of a list made from it
 pub length-mapped : (X Y : Type 0) (f : X → Y) (l : List X) (n : ℕ) → length (map f l) ≡ n → length l ≡ n
@@ -81,14 +68,6 @@ module _ {A : Type 0} where
       let e : j ≡ suc (j - 1) = omega arith in
       ap (λ (k : ℕ). getD (insertAt p x xs) k d) e ∙ insertAt-after p x xs (j - 1) d h (omega arith)
 
-  -- at the end it is one entry more
-  pub insertAt-end : (p : ℕ) (x : A) (xs : List A) → length xs ≤ p → insertAt p x xs ≡ xs ++ x ∷ []
-  unfolding insertAt
-  insertAt-end zero x [] h = refl
-  insertAt-end (suc p) x [] h = refl
-  insertAt-end zero x (y ∷ xs) h = absurd (omega arith)
-  insertAt-end (suc p) x (y ∷ xs) h = ap (λ (l : List A). y ∷ l) (insertAt-end p x xs (le-of-suc-le-suc h))
-
   -- ---- removeAt
 
   pub length-removeAt : (p : ℕ) (xs : List A) → p < length xs → length (removeAt p xs) + 1 ≡ length xs
@@ -111,13 +90,6 @@ module _ {A : Type 0} where
   removeAt-after (suc p) (y ∷ xs) zero d h = absurd (omega arith)
   removeAt-after (suc p) (y ∷ xs) (suc j) d h = removeAt-after p xs j d (le-of-suc-le-suc h)
 
-  -- what was inserted and is removed again leaves the list as it was
-  pub removeAt-insertAt : (p : ℕ) (x : A) (xs : List A) → p ≤ length xs → removeAt p (insertAt p x xs) ≡ xs
-  unfolding insertAt removeAt
-  removeAt-insertAt zero x xs h = refl
-  removeAt-insertAt (suc p) x [] h = absurd (omega arith)
-  removeAt-insertAt (suc p) x (y ∷ xs) h = ap (λ (l : List A). y ∷ l) (removeAt-insertAt p x xs (le-of-suc-le-suc h))
-
   -- ---- the lengths of what is made of the entries in use
 
   module _ (len : ℕ) (at : List A) (h : len ≤ length at) where
@@ -134,31 +106,6 @@ module _ {A : Type 0} where
     size-take n g = omega (arith, used-length, length-take n (take len at))
 
   -- ---- tests of the entries
-
-  pub anyOf-insertAt : (t : A → Bool) (p : ℕ) (x : A) (xs : List A) → anyOf t (insertAt p x xs) ≡ (t x || anyOf t xs)
-  unfolding insertAt anyOf
-  anyOf-insertAt t zero x xs = refl
-  anyOf-insertAt t (suc p) x [] = refl
-  anyOf-insertAt t (suc p) x (y ∷ xs) = ap (λ (b : Bool). t y || b) (anyOf-insertAt t p x xs) ∙ or-swap (t y) (t x) (anyOf t xs)
-
-  pub allOf-insertAt : (t : A → Bool) (p : ℕ) (x : A) (xs : List A) → allOf t (insertAt p x xs) ≡ (t x && allOf t xs)
-  unfolding insertAt allOf
-  allOf-insertAt t zero x xs = refl
-  allOf-insertAt t (suc p) x [] = refl
-  allOf-insertAt t (suc p) x (y ∷ xs) = ap (λ (b : Bool). t y && b) (allOf-insertAt t p x xs) ∙ and-swap (t y) (t x) (allOf t xs)
-
-  -- a list's test is that of the entry at a place or of what is left without it
-  pub anyOf-removeAt : (t : A → Bool) (p : ℕ) (xs : List A) (d : A) → p < length xs → anyOf t xs ≡ (t (getD xs p d) || anyOf t (removeAt p xs))
-  unfolding removeAt anyOf
-  anyOf-removeAt t p [] d h = absurd (omega arith)
-  anyOf-removeAt t zero (y ∷ xs) d h = refl
-  anyOf-removeAt t (suc p) (y ∷ xs) d h = ap (λ (b : Bool). t y || b) (anyOf-removeAt t p xs d (le-of-suc-le-suc h)) ∙ or-swap (t y) (t (getD xs p d)) (anyOf t (removeAt p xs))
-
-  pub allOf-removeAt : (t : A → Bool) (p : ℕ) (xs : List A) (d : A) → p < length xs → allOf t xs ≡ (t (getD xs p d) && allOf t (removeAt p xs))
-  unfolding removeAt allOf
-  allOf-removeAt t p [] d h = absurd (omega arith)
-  allOf-removeAt t zero (y ∷ xs) d h = refl
-  allOf-removeAt t (suc p) (y ∷ xs) d h = ap (λ (b : Bool). t y && b) (allOf-removeAt t p xs d (le-of-suc-le-suc h)) ∙ and-swap (t y) (t (getD xs p d)) (allOf t (removeAt p xs))
 
   -- ---- a table
 

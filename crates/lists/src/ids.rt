@@ -142,14 +142,3 @@ pub fn position(l: Ids, pane: u64) -> Place
     }
     Place::Nothing
 }
-
-// `contains`
-pub fn contains(l: Ids, pane: u64) -> bool
-    requires { ⌜ l .len ≤ 16 ⌝ }
-    ensures { λ r. ⌜ r ≡ Rule.contains pane (ids l) ⌝ }
-{
-    match position(l, pane) {
-        Place::At(_) => true,
-        Place::Nothing => false,
-    }
-}

@@ -1,6 +1,6 @@
 // The parts of an operation: finding, targets, taking a pane out, groups and splits changed (the Rust's tree.rs, 447 to 582, 651 to 741 and 1126 to 1180).
 // A tile is found by a scan of the 64 slots, and not by a walk: on a sound tree occupied slots are the tiles that are read, each once
-// (specs/Find.antt, and Trees.antt of the crate ops).
+// (specs/Find.antt, and Trees.antt of the crate docking).
 use rules::model::Axis;
 use rules::model::Placement;
 use rules::model::TileId;

@@ -1,11 +1,8 @@
 -- What owning an array of f64, or a Reals, tells: its length, and that each element is a value of the format. Assumes nothing.
 use mathlib.Core.Path.{_≡_, sym, subst}
 use mathlib.Core.List.{List, [], _∷_, map}
-use Prim.Native.Nat.{ℕ, _≤_}
-use native.Mathlib.Omega.{arith}
 use lib.Dec.{T}
-use lib.ListN.{length, take, length-map}
-use lib.Seq.{length-take-le}
+use lib.ListN.{length, length-map}
 use lib.Ieee.{Float, binary64, fits}
 use mir.Val.{Val}
 use denote.Array.{each}
@@ -34,7 +31,3 @@ pub record Owned (l : Reals) : Type 0 where
 -- In a function's proof, of a Reals that is the parameter at `GOOD` of `c .. .good`: reals-owned (.. .args .NAME) (GOOD .0) (GOOD .1 .1)
 pub reals-owned : (l : Reals) (us : Valss (Struct.Declared.shape the-type .fields)) → shadow (owns (Struct.Declared.shape the-type .fields) (the-type .to l) us) → Owned l
 reals-owned l us p = record { long = simp length-map at (p .0 .1 .0 .1); fit = all-unmap (λ (x : Float). x) (l .at) (floats-fit (map (λ (x : Float). x) (l .at)) (p .0 .0) (p .0 .1 .1)) }
-
--- as many as are asked for, up to 16
-pub reals-taken : (l : Reals) (n : ℕ) (us : Valss (Struct.Declared.shape the-type .fields)) → shadow (owns (Struct.Declared.shape the-type .fields) (the-type .to l) us) → n ≤ 16 → length (take n (l .at)) ≡ n
-reals-taken l n us p h = let e = reals-owned l us p .long in length-take-le n (l .at) (omega arith)

@@ -37,7 +37,7 @@ module _ (t : TileTree) (r s : Repairing) (R : Repairs t r) (S : Repairs t s) wh
 pub sound-unique : (t : TileTree) (b c : Bool) → b ≡ sound (view t) → c ≡ sound (view t) → b ≡ c
 sound-unique t b c x y = one-value (λ (d : Bool). d) (sound (view t)) b c x y
 
--- ---- apply: what is read is in `one-answer` (ops/Theorems); a refused tree, and an unchanged one, to the last place
+-- ---- apply: what is read is in `one-answer` (fates/Theorems); a refused tree, and an unchanged one, to the last place
 
 -- the contract of the call
 abbrev pub Applies : TileTree → TileOp → Applying → Type 0
