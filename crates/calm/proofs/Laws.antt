@@ -1,6 +1,6 @@
 -- Laws that the proofs of the walk cite, over plain values. Assumes nothing.
 use mathlib.Core.Path.{_≡_, refl, sym, ap, subst, _∙_}
-use mathlib.Core.Bool.{Bool, true, false, _&&_, cond}
+use mathlib.Core.Bool.{Bool, true, false, cond}
 use mathlib.Core.List.{List, [], _∷_, _++_}
 use mathlib.Core.Option.{Option, none, some}
 use Prim.Native.Nat.{ℕ, _+_, _≤_, _<_}
@@ -29,17 +29,6 @@ orNone (some x) = x
 
 some-same : (x y : List ℕ) → some x ≡ some y → x ≡ y
 some-same x y z = let w : orNone (some x) ≡ orNone (some y) = ap orNone z in w
-
--- ---- three tests, the first that fails ends them
-
-pub first-fails : {a : Bool} (b c : Bool) → a ≡ false → false ≡ (a && (b && c))
-first-fails b c e = ap (λ (x : Bool). x && (b && c)) (sym e)
-
-pub second-fails : {a b : Bool} (c : Bool) → a ≡ true → b ≡ false → false ≡ (a && (b && c))
-second-fails c e f = (λ i. sym e i && (sym f i && c))
-
-pub third-tells : {a b : Bool} (c : Bool) → a ≡ true → b ≡ true → c ≡ (a && (b && c))
-third-tells c e f = (λ i. sym e i && (sym f i && c))
 
 -- ---- one pane
 

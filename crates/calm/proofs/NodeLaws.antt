@@ -1,4 +1,4 @@
--- Laws that the proof of the cycle cites, over plain values: a tile that ends the walk, a leaf, a split opened, and its children one by one. Assumes nothing.
+-- Laws that the proof of the cycle cites, over plain values: a tile that ends the walk, a leaf, and a split's children one by one. Assumes nothing.
 use mathlib.Core.Path.{_≡_, refl, sym, ap, _∙_}
 use mathlib.Core.Bool.{Bool, true, false, _&&_, cond}
 use mathlib.Core.List.{List, [], _∷_, map}
@@ -9,21 +9,22 @@ use native.Mathlib.Omega.{arith}
 use borrow.Author.Tests.{le-leb, lt-leb}
 use lib.Dec.{leb}
 use lib.ListN.{length, take, drop, getD, set, length-set, drop-of-length-le, length-map}
-use lib.Seq.{drop-cons}
+use lib.Seq.{drop-cons, length-take-le, getD-take}
 use lib.Ieee.{Float}
+use Rattle.rules.specs.Numbers.{zero-f}
 use Rattle.rules.specs.Shares.{repairedShares, eqReals}
 use Rattle.rules.specs.Minima.{alignedConstraints, compactConstraints}
-use Rattle.rules.specs.Tree.{Node, nodeAt, tile, ids, reals}
+use Rattle.rules.specs.Tree.{Node, nodeAt, tile}
 use Rattle.rules.specs.Repair.{Entry, entry, entries, melts}
 use Rattle.rules.specs.declared.model.TileId.{TileId}
 use Rattle.rules.specs.declared.model.Axis.{Axis}
 use Rattle.forest.specs.Lists.{free, free-set}
 use Rattle.forest.specs.Still.{noneLost}
-use Rattle.sifting.specs.Walked.{entriesOf}
-use Rattle.melting.specs.Splits.{Loaded, Mends}
-use Rattle.sifting.specs.declared.Kids.{Kids}
+use Rattle.forest.specs.Mended.{aligned-length}
+use Rattle.normalize.proofs.WalkLaws.{entries-at, entries-long}
 use Rattle.calm.specs.Calm.{Look, look, taking, calmPanes, seeing, calmGroup, unmelted, calmKids, calmSplit, calmNode, calmTile, calm, calmEnd}
-use Rattle.calm.specs.Reads.{sighted, looked, Sights, Groups, Reads}
+use Rattle.calm.specs.Reads.{sighted, looked, Sights, Groups, Reads, Rows, listsCalm}
+use Rattle.calm.proofs.ListLaws.{shares-long, melts-same}
 use Rattle.calm.specs.declared.Calm.{Calm}
 
 -- ---- a tile that ends the walk
@@ -84,41 +85,7 @@ module _ (cs : List Bool) (i : ℕ) (long : length cs ≡ 64) (inside : i < 64) 
   pub split-read : (o : Option Look) (cs″ : List Bool) (seen′ : List ℕ) (r : Calm) → Reads o cs′ n cs″ seen′ r → (o′ : Option Look) → o ≡ o′ → Reads o′ cs n cs″ seen′ r
   split-read o cs″ seen′ r R o′ e = record { flags = R .flags; room = omega (arith, R .room, one-less); right = R .right ∙ e }
 
--- ---- a split's lists
-
-module _ (h xs : List ℕ) (ss ms : List Float) (given rows : Kids) (L : Loaded h xs ss ms given) (M : Mends given rows) (ok : Bool) where
-  count-same : length (map tile (take (getD h 4 0) xs)) ≡ length (ids (given .children))
-  count-same = length-map (take (getD h 4 0) xs) tile ∙ ap length (sym (L .children))
-
-  old-same : repairedShares (length (map tile (take (getD h 4 0) xs))) (take (getD h 5 0) ss) ≡ reals (rows .shares)
-  old-same = (λ z. repairedShares (count-same z) (sym (L .shares) z)) ∙ sym (M .shares)
-
-  mins-same : alignedConstraints (length (map tile (take (getD h 4 0) xs))) (take (getD h 6 0) ms) ≡ reals (rows .minima)
-  mins-same = (λ z. alignedConstraints (count-same z) (sym (L .minima) z)) ∙ sym (M .minima)
-
-  children-same : map tile (take (getD h 4 0) xs) ≡ map tile (ids (rows .children))
-  children-same = ap (map tile) (sym (L .children) ∙ sym (M .children))
-
-  three : {A : Type 0} (b1 b2 b3 : Bool) (x : Option A) → cond b1 (cond b2 (cond b3 x none) none) none ≡ cond (b3 && (b1 && b2)) x none
-  three true true true x = refl
-  three true true false x = refl
-  three true false true x = refl
-  three true false false x = refl
-  three false b2 true x = refl
-  three false b2 false x = refl
-
-  pub held : ok ≡ (leb 2 (rows .children .len) && (eqReals (reals (rows .shares)) (reals (given .shares)) && eqReals (compactConstraints (reals (rows .minima))) (reals (given .minima))))
-      → (again : TileId → Look → Option Look) (ns : List Node) (a : Axis) (l : Look)
-      → calmSplit again ns a (map tile (take (getD h 4 0) xs)) (take (getD h 5 0) ss) (take (getD h 6 0) ms) l ≡ cond ok (calmKids again ns a (entriesOf rows) (some l)) none
-  held e again ns a l =
-      let cs = map tile (take (getD h 4 0) xs) in
-      three (eqReals (repairedShares (length cs) (take (getD h 5 0) ss)) (take (getD h 5 0) ss)) (eqReals (compactConstraints (alignedConstraints (length cs) (take (getD h 6 0) ms))) (take (getD h 6 0) ms)) (leb 2 (length cs))
-      (calmKids again ns a (entries cs (repairedShares (length cs) (take (getD h 5 0) ss)) (alignedConstraints (length cs) (take (getD h 6 0) ms))) (some l))
-      ∙ (λ z. cond (leb 2 ((count-same ∙ sym (M .count)) z) && (eqReals (old-same z) (sym (L .shares) z) && eqReals (compactConstraints (mins-same z)) (sym (L .minima) z)))
-      (calmKids again ns a (entries (children-same z) (old-same z) (mins-same z)) (some l)) none)
-      ∙ ap (λ (b : Bool). cond b (calmKids again ns a (entriesOf rows) (some l)) none) (sym e)
-
--- ---- its children, one by one
+-- ---- a split's children, one by one
 
 pub kids-none : (again : TileId → Look → Option Look) (ns : List Node) (a : Axis) (es : List Entry) → calmKids again ns a es none ≡ none
 unfolding calmKids
@@ -171,6 +138,109 @@ module _ (again : TileId → Look → Option Look) (ns : List Node) (a : Axis) (
     pub going-done : length es ≤ j → some (look cs (take m seen)) ≡ whole
     unfolding calmKids
     going-done h = sym (ap (λ (x : List Entry). calmKids again ns a x (some (look cs (take m seen)))) (drop-of-length-le es h)) ∙ G .left
+
+-- ---- a split, from its slot's rows
+
+module _ (again : TileId → Look → Option Look) (ns : List Node) (a : Axis) (h xs : List ℕ) (ss ms : List Float) (few : getD h 4 0 ≤ 16) (R : Rows xs ss ms) where
+  abbrev count : ℕ
+  count = getD h 4 0
+
+  abbrev by : List Float
+  by = take (getD h 5 0) ss
+
+  abbrev least : List Float
+  least = take (getD h 6 0) ms
+
+  abbrev pub kids : List Entry
+  kids = entries (map tile (take count xs)) (repairedShares count by) (alignedConstraints count least)
+
+  long : length (take count xs) ≡ count
+  long = length-take-le count xs (omega (arith, R .children))
+
+  three : (b1 b2 b3 : Bool) (o : Option Look) → cond b1 (cond b2 (cond b3 o none) none) none ≡ cond (b3 && (b1 && b2)) o none
+  three true true true o = refl
+  three true true false o = refl
+  three true false true o = refl
+  three true false false o = refl
+  three false b2 true o = refl
+  three false b2 false o = refl
+
+  module _ (cs₀ : List Bool) (seen₀ : List ℕ) (n : ℕ) (b : Bool) (told : b ≡ listsCalm count by least) where
+    abbrev l₀ : Look
+    l₀ = look cs₀ (take n seen₀)
+
+    abbrev split-whole : Option Look
+    split-whole = calmSplit again ns a (map tile (take count xs)) by least l₀
+
+    opened : split-whole ≡ cond b (calmKids again ns a kids (some l₀)) none
+    opened =
+        ap (λ (k : ℕ). cond (eqReals (repairedShares k by) by) (cond (eqReals (compactConstraints (alignedConstraints k least)) least) (cond (leb 2 k) (calmKids again ns a (entries (map tile (take count xs)) (repairedShares k by) (alignedConstraints k least)) (some l₀)) none) none) none) (length-map (take count xs) tile ∙ long)
+        ∙ three (eqReals (repairedShares count by) by) (eqReals (compactConstraints (alignedConstraints count least)) least) (leb 2 count) (calmKids again ns a kids (some l₀))
+        ∙ ap (λ (q : Bool). cond q (calmKids again ns a kids (some l₀)) none) (sym told)
+
+    pub split-mends : b ≡ false → none ≡ split-whole
+    split-mends e = sym (opened ∙ ap (λ (q : Bool). cond q (calmKids again ns a kids (some l₀)) none) e)
+
+    module _ (yes : b ≡ true) where
+      all : calmKids again ns a kids (some l₀) ≡ split-whole
+      all = sym (opened ∙ ap (λ (q : Bool). cond q (calmKids again ns a kids (some l₀)) none) yes)
+
+      calm-lists : listsCalm count by least ≡ true
+      calm-lists = sym told ∙ yes
+
+      same-shares : length (repairedShares count by) ≡ length (take count xs)
+      same-shares = shares-long count by least calm-lists ∙ sym long
+
+      same-minima : length (alignedConstraints count least) ≡ length (take count xs)
+      same-minima = aligned-length count least ∙ sym long
+
+      kids-long : length kids ≡ count
+      kids-long = entries-long (take count xs) (repairedShares count by) (alignedConstraints count least) same-shares same-minima ∙ long
+
+      module _ (cs : List Bool) (seen : List ℕ) (m j : ℕ) (G : Going again ns a kids cs₀ seen₀ n cs seen m j) where
+        module _ (inside : j < count) (cs′ : List Bool) (seen′ : List ℕ) (w : Calm) (W : Reads (again (tile (getD xs j 0)) (look cs (take m seen))) cs m cs′ seen′ w) where
+          abbrev child : ℕ
+          child = getD xs j 0
+
+          abbrev share : Float
+          share = getD (repairedShares count by) j zero-f
+
+          abbrev minimum : Float
+          minimum = getD (alignedConstraints count least) j zero-f
+
+          abbrev none-there : Entry
+          none-there = entry (tile 0) zero-f zero-f
+
+          at : getD kids j none-there ≡ entry (tile child) share minimum
+          at =
+              entries-at (take count xs) (repairedShares count by) (alignedConstraints count least) j none-there (omega (arith, long)) same-shares same-minima
+              ∙ ap (λ (c : ℕ). entry (tile c) share minimum) (getD-take count xs j 0 inside)
+
+          more : j < length kids
+          more = omega (arith, kids-long)
+
+          room : w .seen + 16 * free cs′ ≤ n + 16 * free cs₀
+          room = going-room again ns a kids cs₀ seen₀ n cs seen m j G none-there more child share minimum at cs′ seen′ w W
+
+          -- the answer that ends the walk at this child
+          ending : none ≡ calmKids again ns a kids (some l₀) → (r : Calm) → r .ok ≡ false → r .seen ≡ w .seen → Reads split-whole cs₀ n cs′ seen′ r
+          ending e r f g = ends split-whole cs₀ cs′ n seen′ r (e ∙ all) f (W .flags) (omega (arith, g, room))
+
+          pub kid-stops : w .ok ≡ false → (r : Calm) → r .ok ≡ false → r .seen ≡ w .seen → Reads split-whole cs₀ n cs′ seen′ r
+          kid-stops e = ending (going-stop again ns a kids cs₀ seen₀ n cs seen m j G none-there more child share minimum at cs′ seen′ w W e)
+
+          module _ (ok : w .ok ≡ true) (x : Float) (is : x ≡ getD least j zero-f) (t : Bool) (melting : t ≡ melts a x (nodeAt ns (tile child))) where
+            melts-is : melts a minimum (nodeAt ns (tile child)) ≡ t
+            melts-is = sym (melting ∙ ap (λ (y : Float). melts a y (nodeAt ns (tile child))) is ∙ melts-same a count by least calm-lists j inside (nodeAt ns (tile child)))
+
+            pub kid-melts : t ≡ true → (r : Calm) → r .ok ≡ false → r .seen ≡ w .seen → Reads split-whole cs₀ n cs′ seen′ r
+            kid-melts e = ending (going-melts again ns a kids cs₀ seen₀ n cs seen m j G none-there more child share minimum at cs′ seen′ w W ok (melts-is ∙ e))
+
+            pub kid-stays : t ≡ false → Going again ns a kids cs₀ seen₀ n cs′ seen′ (w .seen) (j + 1)
+            kid-stays e = going-more again ns a kids cs₀ seen₀ n cs seen m j G none-there more child share minimum at cs′ seen′ w W ok (melts-is ∙ e)
+
+        pub kids-done : count ≤ j → Reads split-whole cs₀ n cs seen (record { ok = true; seen = m })
+        kids-done h = record { flags = G .flags; room = G .room; right = going-done again ns a kids cs₀ seen₀ n cs seen m j G (omega (arith, kids-long)) ∙ all }
 
 -- ---- the end
 

@@ -1,21 +1,18 @@
 -- What the steps of the walk promise, each of the arrays that it is lent. Definitions only.
 use mathlib.Core.Path.{_≡_}
-use mathlib.Core.Bool.{Bool, true, false, cond}
-use mathlib.Core.List.{List, [], map}
+use mathlib.Core.Bool.{Bool, true, false, _&&_}
+use mathlib.Core.List.{List, []}
 use mathlib.Core.Option.{Option, none, some}
 use Prim.Native.Nat.{ℕ, _+_, _*_, _≤_}
+use lib.Dec.{leb}
 use lib.ListN.{length, take, getD}
 use lib.Ieee.{Float}
-use Rattle.rules.specs.Tree.{Node, tile}
+use Rattle.rules.specs.Shares.{repairedShares, eqReals}
+use Rattle.rules.specs.Minima.{alignedConstraints, compactConstraints}
 use Rattle.forest.specs.Lists.{free}
 use Rattle.columns.specs.Columns.{Slim}
-use Rattle.calm.specs.Calm.{Look, look, calmPanes, calmGroup, calmKids, calmSplit}
-use Rattle.rules.specs.Tree as Tree
-use Rattle.rules.specs.declared.model.TileId.{TileId}
-use Rattle.rules.specs.declared.model.Axis.{Axis}
-use Rattle.sifting.specs.Walked.{Even, entriesOf}
+use Rattle.calm.specs.Calm.{Look, look, calmPanes, calmGroup}
 use Rattle.calm.specs.declared.Calm.{Calm}
-use Rattle.calm.specs.declared.nodes.Held.{Held}
 
 -- panes seen, or the end of the walk
 abbrev pub sighted : Bool → List ℕ → Option (List ℕ)
@@ -51,11 +48,12 @@ pub record Reads (o : Option Look) (cs : List Bool) (n : ℕ) (cs′ : List Bool
   pub room : r .seen + 16 * free cs′ ≤ n + 16 * free cs
   pub right : looked (r .ok) (look cs′ (take (r .seen) seen′)) ≡ o
 
--- a split's lists were read from its slot, and mended: r says whether they needed none
-pub record Holding (h xs : List ℕ) (ss ms : List Float) (r : Held) : Type 0 where
-  pub even : Even (r .rows)
-  pub children : length (Tree.ids (r .rows .children)) ≡ r .rows .children .len
-  pub shares : length (Tree.reals (r .rows .shares)) ≡ r .rows .children .len
-  pub minima : length (Tree.reals (r .rows .minima)) ≡ r .rows .children .len
-  pub right : (again : TileId → Look → Option Look) (ns : List Node) (a : Axis) (l : Look)
-      → calmSplit again ns a (map tile (take (getD h 4 0) xs)) (take (getD h 5 0) ss) (take (getD h 6 0) ms) l ≡ cond (r .ok) (calmKids again ns a (entriesOf (r .rows)) (some l)) none
+-- the rows of a slot have 16 places each
+pub record Rows (xs : List ℕ) (ss ms : List Float) : Type 0 where
+  pub children : length xs ≡ 16
+  pub shares : length ss ≡ 16
+  pub minima : length ms ≡ 16
+
+-- the lists of a split of n children need no mending, and the children are two or more
+abbrev pub listsCalm : ℕ → List Float → List Float → Bool
+listsCalm n ss ms = leb 2 n && (eqReals (repairedShares n ss) ss && eqReals (compactConstraints (alignedConstraints n ms)) ms)

@@ -1,24 +1,18 @@
-use mathlib.Core.Path.{_≡_, sym, ap, _∙_}
-use mathlib.Core.Bool.{Bool, cond}
-use mathlib.Core.Option.{none, some}
-use mathlib.Core.List.{List, [], map}
-use Prim.Native.Nat.{ℕ, _+_, _-_, _*_, _<_}
+-- `calm::nodes::calm_node` is `calm`, and `calm_split` is `calmSplit`: fuel falls from tile to tile. Assumes nothing.
+use mathlib.Core.Path.{ap, _∙_}
+use mathlib.Core.List.{[]}
+use Prim.Native.Nat.{ℕ, _+_, _-_, _*_, _≤_, _<_}
 use native.Mathlib.Nat.{pos-of-ne-zero}
 use native.Mathlib.Omega.{arith}
 use borrow.Author.Needs.{needs}
 use borrow.Author.Tests.{not-true, not-false}
-use lib.ListN.{length, take, getD}
-use lib.Ieee.{Float, ofBits}
-use Rattle.rules.specs.Numbers.{zero-f}
-use Rattle.rules.specs.Tree.{Node, empty, pane, tile}
-use Rattle.rules.specs.Tree as Tree
-use Rattle.rules.specs.Repair.{entry, entries}
+use lib.ListN.{take, getD}
+use Rattle.rules.specs.Tree.{Node, empty, pane}
 use Rattle.columns.specs.Columns.{axisFrom, nodeBy, nodesFrom}
 use Rattle.columns.specs.ColumnLaws.{nodes-at, split-of}
-use Rattle.sifting.specs.Walked.{entriesOf}
-use Rattle.normalize.proofs.WalkLaws.{entries-at, entries-long}
-use Rattle.calm.specs.Calm.{calm, calmKids, look}
-use Rattle.calm.proofs.NodeLaws.{calm-zero, calm-out, calm-claimed, calm-at, ends, one-less, long′, pane-read, group-read, split-read, Going, going-none, going-room, going-stop, going-melts, going-more, going-done}
+use Rattle.calm.specs.Calm.{calm}
+use Rattle.calm.specs.Reads.{Rows}
+use Rattle.calm.proofs.NodeLaws.{calm-zero, calm-out, calm-claimed, calm-at, ends, one-less, long′, pane-read, group-read, split-read, Going, going-none, kids, split-mends, kid-stops, kid-melts, kid-stays, kids-done}
 use borrow.Fn.Kinds.{In}
 use borrow.Fn.PlainCycle.{Measures, is, falls, and}
 use Rattle.calm.proofs.nodes.calm_node.Reads as calm-node
@@ -30,10 +24,10 @@ use Rattle.calm.proofs.nodes.+calm_node+calm_split.Lts-calm_split as ca
 use Rattle.calm.proofs.leaves.calm_group.Reads as calm-group-reads
 use Rattle.calm.proofs.leaves.calm_pane.Reads as calm-pane-reads
 use Rattle.calm.proofs.leaves.stopped.Reads as stopped-reads
-use Rattle.calm.proofs.nodes.hold.Reads as hold-reads
+use Rattle.calm.proofs.lists.lists_calm.Reads as lists-calm-reads
+use Rattle.calm.proofs.lists.measured.Reads as measured-reads
+use Rattle.calm.proofs.lists.minimum_at.Reads as minimum-at-reads
 use Rattle.calm.proofs.nodes.melts_in.Reads as melts-in-reads
-use Rattle.lists.proofs.ids.get.Reads as ids-get-reads
-use Rattle.real_lists.proofs.reals.get.Reads as reals-get-reads
 use Rattle.calm.proofs.nodes.+calm_node+calm_split.{statement}
 use Rattle.calm.proofs.nodes.+calm_node+calm_split.Tie.{close}
 
@@ -438,195 +432,376 @@ calm-node-returns-7 t c =
     (calm-at ns (x .id) (x .claimed .now) (take (x .n) (x .seen .now)) inside open-yet _ (is ∙ split-of (getD h 0 0) h (getD (x .ids .now) (x .id) []) (getD (x .shares .now) (x .id) []) (getD (x .minima .now) (x .id) []) (c .before .before .before .before .before .if4 .left) (c .before .before .before .before .if5 .left) (c .before .before .before .if6 .left)) (x .depth) deep)
 
 abbrev calm-split-Inv-loop : calm-split-lts.InvT-loop
-calm-split-Inv-loop heads ids shares minima claimed₀ seen₀ n id depth i mode children least count m₀ j₀ claimed seen m j =
-    (ss : List Float) → length ss ≡ count → Going (calm depth (nodesFrom heads ids shares minima)) (nodesFrom heads ids shares minima) (axisFrom mode) (entries (map tile (Tree.ids children)) ss (Tree.reals least)) claimed₀ seen₀ n claimed seen m j
+calm-split-Inv-loop heads ids shares minima claimed₀ seen₀ n id depth i mode count least m₀ j₀ claimed seen m j =
+    (few : getD (getD heads id []) 4 0 ≤ 16) (R : Rows (getD ids id []) (getD shares id []) (getD minima id [])) → Going (calm depth (nodesFrom heads ids shares minima)) (nodesFrom heads ids shares minima) (axisFrom mode) (kids (calm depth (nodesFrom heads ids shares minima)) (nodesFrom heads ids shares minima) (axisFrom mode) (getD heads id []) (getD ids id []) (getD shares id []) (getD minima id []) few R) claimed₀ seen₀ n claimed seen m j
 
 abbrev calm-split-μ-loop : calm-split-lts.MeasureT-loop
-calm-split-μ-loop heads ids shares minima claimed₀ seen₀ n id depth i mode children least count m₀ j₀ claimed seen m j =
+calm-split-μ-loop heads ids shares minima claimed₀ seen₀ n id depth i mode count least m₀ j₀ claimed seen m j =
     count - j
 
-calm-split-hold-requires : (t : ℕ) → calm-split-lts.Need-hold-requires (
-  hold-reads.Asked,
-  hold-reads.Learnt,
+calm-split-measured-requires : (t : ℕ) → calm-split-lts.Need-measured-requires (
+  measured-reads.Asked,
+  measured-reads.Learnt,
+  lists-calm-reads.Asked,
+  lists-calm-reads.Learnt,
   stopped-reads.Asked,
   stopped-reads.Learnt,
-  ids-get-reads.Asked,
-  ids-get-reads.Learnt,
   calm-node-below t,
   calm-node.Post,
-  reals-get-reads.Asked,
-  reals-get-reads.Learnt,
+  minimum-at-reads.Asked,
+  minimum-at-reads.Learnt,
   melts-in-reads.Asked,
   melts-in-reads.Learnt,
 ) (calm-split-at t) calm-split.Post calm-split-Inv-loop calm-split-μ-loop
-calm-split-hold-requires t c κs =
+calm-split-measured-requires t c κs =
     let p = c .pre .1 in
-    (p .2, p .0 .heads, p .0 .ids, p .0 .shares, p .0 .minima, p .0 .slim (c .args .id))
+    (p .2, p .0 .ids, p .0 .shares, p .0 .minima)
 
-calm-split-stopped-requires : (t : ℕ) → calm-split-lts.Need-stopped-requires (
-  hold-reads.Asked,
-  hold-reads.Learnt,
+calm-split-lists-calm-requires : (t : ℕ) → calm-split-lts.Need-lists-calm-requires (
+  measured-reads.Asked,
+  measured-reads.Learnt,
+  lists-calm-reads.Asked,
+  lists-calm-reads.Learnt,
   stopped-reads.Asked,
   stopped-reads.Learnt,
-  ids-get-reads.Asked,
-  ids-get-reads.Learnt,
   calm-node-below t,
   calm-node.Post,
-  reals-get-reads.Asked,
-  reals-get-reads.Learnt,
+  minimum-at-reads.Asked,
+  minimum-at-reads.Learnt,
+  melts-in-reads.Asked,
+  melts-in-reads.Learnt,
+) (calm-split-at t) calm-split.Post calm-split-Inv-loop calm-split-μ-loop
+calm-split-lists-calm-requires t c κs =
+    let p = c .before .pre .1 in
+    let R = c .measured .ensures in
+    (p .2, p .0 .heads, p .0 .shares, p .0 .minima, p .0 .slim (c .before .args .id), R .shares, R .minima)
+
+calm-split-stopped-requires : (t : ℕ) → calm-split-lts.Need-stopped-requires (
+  measured-reads.Asked,
+  measured-reads.Learnt,
+  lists-calm-reads.Asked,
+  lists-calm-reads.Learnt,
+  stopped-reads.Asked,
+  stopped-reads.Learnt,
+  calm-node-below t,
+  calm-node.Post,
+  minimum-at-reads.Asked,
+  minimum-at-reads.Learnt,
   melts-in-reads.Asked,
   melts-in-reads.Learnt,
 ) (calm-split-at t) calm-split.Post calm-split-Inv-loop calm-split-μ-loop
 calm-split-stopped-requires t c κs = tt
 
 calm-split-returns : (t : ℕ) → calm-split-lts.Need-returns (
-  hold-reads.Asked,
-  hold-reads.Learnt,
+  measured-reads.Asked,
+  measured-reads.Learnt,
+  lists-calm-reads.Asked,
+  lists-calm-reads.Learnt,
   stopped-reads.Asked,
   stopped-reads.Learnt,
-  ids-get-reads.Asked,
-  ids-get-reads.Learnt,
   calm-node-below t,
   calm-node.Post,
-  reals-get-reads.Asked,
-  reals-get-reads.Learnt,
+  minimum-at-reads.Asked,
+  minimum-at-reads.Learnt,
   melts-in-reads.Asked,
   melts-in-reads.Learnt,
 ) (calm-split-at t) calm-split.Post calm-split-Inv-loop calm-split-μ-loop
 calm-split-returns t c =
-    let hd = c .before .before .before in
-    let b = hd .before in
+    let hd = c .before .before in
+    let b = hd .before .before in
     let x = b .args in
     let G = b .pre .1 .0 in
     let ns = nodesFrom (x .heads .now) (x .ids .now) (x .shares .now) (x .minima .now) in
-    let a = axisFrom (getD (getD (x .heads .now) (x .id) []) 1 0) in
-    let H = hd .hold .ensures in
-    let rows = hd .hold .result .rows in
+    let h = getD (x .heads .now) (x .id) [] in
+    let xs = getD (x .ids .now) (x .id) [] in
+    let ss = getD (x .shares .now) (x .id) [] in
+    let ms = getD (x .minima .now) (x .id) [] in
+    let a = axisFrom (getD h 1 0) in
     let again = calm (x .depth) ns in
-    let es = entriesOf rows in
-    ends _ (x .claimed .now) (x .claimed .now) (x .n) (x .seen .now) (c .stopped .result)
-    (sym (H .right again ns a (look (x .claimed .now) (take (x .n) (x .seen .now))) ∙ ap (λ (q : Bool). cond q (calmKids again ns a es (some (look (x .claimed .now) (take (x .n) (x .seen .now))))) none) (not-true (hd .hold .result .ok) (c .before .if1 .taken))))
+    let few = G .slim (x .id) .0 in
+    let R = hd .before .measured .ensures in
+    let ok = hd .lists-calm .result in
+    let told = hd .lists-calm .ensures in
+    ends _ (x .claimed .now) (x .claimed .now) (x .n) (x .seen .now) (c .stopped .result) (split-mends again ns a h xs ss ms few R (x .claimed .now) (x .seen .now) (x .n) ok told (not-true ok (c .before .if1 .taken)))
     (c .stopped .ensures .0) (G .flags) (omega (arith, c .stopped .ensures .1))
 
-calm-split-mul-h : (t : ℕ) → calm-split-lts.Need-mul-h (
-  hold-reads.Asked,
-  hold-reads.Learnt,
+calm-split-mul-mode : (t : ℕ) → calm-split-lts.Need-mul-mode (
+  measured-reads.Asked,
+  measured-reads.Learnt,
+  lists-calm-reads.Asked,
+  lists-calm-reads.Learnt,
   stopped-reads.Asked,
   stopped-reads.Learnt,
-  ids-get-reads.Asked,
-  ids-get-reads.Learnt,
   calm-node-below t,
   calm-node.Post,
-  reals-get-reads.Asked,
-  reals-get-reads.Learnt,
+  minimum-at-reads.Asked,
+  minimum-at-reads.Learnt,
   melts-in-reads.Asked,
   melts-in-reads.Learnt,
 ) (calm-split-at t) calm-split.Post calm-split-Inv-loop calm-split-μ-loop
-calm-split-mul-h t c = search needs
+calm-split-mul-mode t c = search needs
 
-calm-split-element-copy-out-h : (t : ℕ) → calm-split-lts.Need-element-copy-out-h (
-  hold-reads.Asked,
-  hold-reads.Learnt,
+calm-split-index-1-mode : (t : ℕ) → calm-split-lts.Need-index-1-mode (
+  measured-reads.Asked,
+  measured-reads.Learnt,
+  lists-calm-reads.Asked,
+  lists-calm-reads.Learnt,
   stopped-reads.Asked,
   stopped-reads.Learnt,
-  ids-get-reads.Asked,
-  ids-get-reads.Learnt,
   calm-node-below t,
   calm-node.Post,
-  reals-get-reads.Asked,
-  reals-get-reads.Learnt,
+  minimum-at-reads.Asked,
+  minimum-at-reads.Learnt,
   melts-in-reads.Asked,
   melts-in-reads.Learnt,
 ) (calm-split-at t) calm-split.Post calm-split-Inv-loop calm-split-μ-loop
-calm-split-element-copy-out-h t c = search needs
+calm-split-index-1-mode t c = search needs
 
-calm-split-array-read-mode : (t : ℕ) → calm-split-lts.Need-array-read-mode (
-  hold-reads.Asked,
-  hold-reads.Learnt,
+calm-split-index-2-mode : (t : ℕ) → calm-split-lts.Need-index-2-mode (
+  measured-reads.Asked,
+  measured-reads.Learnt,
+  lists-calm-reads.Asked,
+  lists-calm-reads.Learnt,
   stopped-reads.Asked,
   stopped-reads.Learnt,
-  ids-get-reads.Asked,
-  ids-get-reads.Learnt,
   calm-node-below t,
   calm-node.Post,
-  reals-get-reads.Asked,
-  reals-get-reads.Learnt,
+  minimum-at-reads.Asked,
+  minimum-at-reads.Learnt,
   melts-in-reads.Asked,
   melts-in-reads.Learnt,
 ) (calm-split-at t) calm-split.Post calm-split-Inv-loop calm-split-μ-loop
-calm-split-array-read-mode t c = search needs
+calm-split-index-2-mode t c = search needs
+
+calm-split-mul-count : (t : ℕ) → calm-split-lts.Need-mul-count (
+  measured-reads.Asked,
+  measured-reads.Learnt,
+  lists-calm-reads.Asked,
+  lists-calm-reads.Learnt,
+  stopped-reads.Asked,
+  stopped-reads.Learnt,
+  calm-node-below t,
+  calm-node.Post,
+  minimum-at-reads.Asked,
+  minimum-at-reads.Learnt,
+  melts-in-reads.Asked,
+  melts-in-reads.Learnt,
+) (calm-split-at t) calm-split.Post calm-split-Inv-loop calm-split-μ-loop
+calm-split-mul-count t c = search needs
+
+calm-split-index-1-count : (t : ℕ) → calm-split-lts.Need-index-1-count (
+  measured-reads.Asked,
+  measured-reads.Learnt,
+  lists-calm-reads.Asked,
+  lists-calm-reads.Learnt,
+  stopped-reads.Asked,
+  stopped-reads.Learnt,
+  calm-node-below t,
+  calm-node.Post,
+  minimum-at-reads.Asked,
+  minimum-at-reads.Learnt,
+  melts-in-reads.Asked,
+  melts-in-reads.Learnt,
+) (calm-split-at t) calm-split.Post calm-split-Inv-loop calm-split-μ-loop
+calm-split-index-1-count t c = search needs
+
+calm-split-index-2-count : (t : ℕ) → calm-split-lts.Need-index-2-count (
+  measured-reads.Asked,
+  measured-reads.Learnt,
+  lists-calm-reads.Asked,
+  lists-calm-reads.Learnt,
+  stopped-reads.Asked,
+  stopped-reads.Learnt,
+  calm-node-below t,
+  calm-node.Post,
+  minimum-at-reads.Asked,
+  minimum-at-reads.Learnt,
+  melts-in-reads.Asked,
+  melts-in-reads.Learnt,
+) (calm-split-at t) calm-split.Post calm-split-Inv-loop calm-split-μ-loop
+calm-split-index-2-count t c = search needs
+
+calm-split-mul-least : (t : ℕ) → calm-split-lts.Need-mul-least (
+  measured-reads.Asked,
+  measured-reads.Learnt,
+  lists-calm-reads.Asked,
+  lists-calm-reads.Learnt,
+  stopped-reads.Asked,
+  stopped-reads.Learnt,
+  calm-node-below t,
+  calm-node.Post,
+  minimum-at-reads.Asked,
+  minimum-at-reads.Learnt,
+  melts-in-reads.Asked,
+  melts-in-reads.Learnt,
+) (calm-split-at t) calm-split.Post calm-split-Inv-loop calm-split-μ-loop
+calm-split-mul-least t c = search needs
+
+calm-split-index-1-least : (t : ℕ) → calm-split-lts.Need-index-1-least (
+  measured-reads.Asked,
+  measured-reads.Learnt,
+  lists-calm-reads.Asked,
+  lists-calm-reads.Learnt,
+  stopped-reads.Asked,
+  stopped-reads.Learnt,
+  calm-node-below t,
+  calm-node.Post,
+  minimum-at-reads.Asked,
+  minimum-at-reads.Learnt,
+  melts-in-reads.Asked,
+  melts-in-reads.Learnt,
+) (calm-split-at t) calm-split.Post calm-split-Inv-loop calm-split-μ-loop
+calm-split-index-1-least t c = search needs
+
+calm-split-index-2-least : (t : ℕ) → calm-split-lts.Need-index-2-least (
+  measured-reads.Asked,
+  measured-reads.Learnt,
+  lists-calm-reads.Asked,
+  lists-calm-reads.Learnt,
+  stopped-reads.Asked,
+  stopped-reads.Learnt,
+  calm-node-below t,
+  calm-node.Post,
+  minimum-at-reads.Asked,
+  minimum-at-reads.Learnt,
+  melts-in-reads.Asked,
+  melts-in-reads.Learnt,
+) (calm-split-at t) calm-split.Post calm-split-Inv-loop calm-split-μ-loop
+calm-split-index-2-least t c = search needs
 
 calm-split-loop-holds : (t : ℕ) → calm-split-lts.Need-loop-holds (
-  hold-reads.Asked,
-  hold-reads.Learnt,
+  measured-reads.Asked,
+  measured-reads.Learnt,
+  lists-calm-reads.Asked,
+  lists-calm-reads.Learnt,
   stopped-reads.Asked,
   stopped-reads.Learnt,
-  ids-get-reads.Asked,
-  ids-get-reads.Learnt,
   calm-node-below t,
   calm-node.Post,
-  reals-get-reads.Asked,
-  reals-get-reads.Learnt,
+  minimum-at-reads.Asked,
+  minimum-at-reads.Learnt,
   melts-in-reads.Asked,
   melts-in-reads.Learnt,
 ) (calm-split-at t) calm-split.Post calm-split-Inv-loop calm-split-μ-loop
 calm-split-loop-holds t c =
-    let hd = c .before .before .before .before .before .before in
-    let b = hd .before in
+    let hd = c .before .before .before .before in
+    let b = hd .before .before in
     let x = b .args in
     let G = b .pre .1 .0 in
     let ns = nodesFrom (x .heads .now) (x .ids .now) (x .shares .now) (x .minima .now) in
-    let a = axisFrom (getD (getD (x .heads .now) (x .id) []) 1 0) in
-    let H = hd .hold .ensures in
-    let rows = hd .hold .result .rows in
+    let h = getD (x .heads .now) (x .id) [] in
+    let xs = getD (x .ids .now) (x .id) [] in
+    let ss = getD (x .shares .now) (x .id) [] in
+    let ms = getD (x .minima .now) (x .id) [] in
+    let a = axisFrom (getD h 1 0) in
     let again = calm (x .depth) ns in
-    let es = entriesOf rows in
-    λ ss l. going-none again ns a (entries (map tile (Tree.ids (rows .children))) ss (Tree.reals (rows .minima))) (x .claimed .now) (x .seen .now) (x .n) (G .flags)
+    let few = G .slim (x .id) .0 in
+    let R = hd .before .measured .ensures in
+    let ok = hd .lists-calm .result in
+    let told = hd .lists-calm .ensures in
+    λ few R. going-none again ns a (kids again ns a h xs ss ms few R) (x .claimed .now) (x .seen .now) (x .n) (G .flags)
 
-calm-split-get-requires : (t : ℕ) → calm-split-lts.Need-get-requires (
-  hold-reads.Asked,
-  hold-reads.Learnt,
+calm-split-mul-child : (t : ℕ) → calm-split-lts.Need-mul-child (
+  measured-reads.Asked,
+  measured-reads.Learnt,
+  lists-calm-reads.Asked,
+  lists-calm-reads.Learnt,
   stopped-reads.Asked,
   stopped-reads.Learnt,
-  ids-get-reads.Asked,
-  ids-get-reads.Learnt,
   calm-node-below t,
   calm-node.Post,
-  reals-get-reads.Asked,
-  reals-get-reads.Learnt,
+  minimum-at-reads.Asked,
+  minimum-at-reads.Learnt,
   melts-in-reads.Asked,
   melts-in-reads.Learnt,
 ) (calm-split-at t) calm-split.Post calm-split-Inv-loop calm-split-μ-loop
-calm-split-get-requires t c κs = tt
+calm-split-mul-child t c = search needs
 
-calm-split-calm-node-requires : (t : ℕ) → calm-split-lts.Need-calm-node-requires (
-  hold-reads.Asked,
-  hold-reads.Learnt,
+calm-split-mul-child-2 : (t : ℕ) → calm-split-lts.Need-mul-child-2 (
+  measured-reads.Asked,
+  measured-reads.Learnt,
+  lists-calm-reads.Asked,
+  lists-calm-reads.Learnt,
   stopped-reads.Asked,
   stopped-reads.Learnt,
-  ids-get-reads.Asked,
-  ids-get-reads.Learnt,
   calm-node-below t,
   calm-node.Post,
-  reals-get-reads.Asked,
-  reals-get-reads.Learnt,
+  minimum-at-reads.Asked,
+  minimum-at-reads.Learnt,
+  melts-in-reads.Asked,
+  melts-in-reads.Learnt,
+) (calm-split-at t) calm-split.Post calm-split-Inv-loop calm-split-μ-loop
+calm-split-mul-child-2 t c =
+    let b = c .before .before .before .before .before .before .before .before in
+    let few = b .pre .1 .0 .slim (b .args .id) .0 in
+    search (needs, few)
+
+calm-split-index-1-child : (t : ℕ) → calm-split-lts.Need-index-1-child (
+  measured-reads.Asked,
+  measured-reads.Learnt,
+  lists-calm-reads.Asked,
+  lists-calm-reads.Learnt,
+  stopped-reads.Asked,
+  stopped-reads.Learnt,
+  calm-node-below t,
+  calm-node.Post,
+  minimum-at-reads.Asked,
+  minimum-at-reads.Learnt,
+  melts-in-reads.Asked,
+  melts-in-reads.Learnt,
+) (calm-split-at t) calm-split.Post calm-split-Inv-loop calm-split-μ-loop
+calm-split-index-1-child t c = search needs
+
+calm-split-index-2-child : (t : ℕ) → calm-split-lts.Need-index-2-child (
+  measured-reads.Asked,
+  measured-reads.Learnt,
+  lists-calm-reads.Asked,
+  lists-calm-reads.Learnt,
+  stopped-reads.Asked,
+  stopped-reads.Learnt,
+  calm-node-below t,
+  calm-node.Post,
+  minimum-at-reads.Asked,
+  minimum-at-reads.Learnt,
+  melts-in-reads.Asked,
+  melts-in-reads.Learnt,
+) (calm-split-at t) calm-split.Post calm-split-Inv-loop calm-split-μ-loop
+calm-split-index-2-child t c =
+    let b = c .before .before .before .before .before .before .before .before in
+    let few = b .pre .1 .0 .slim (b .args .id) .0 in
+    search (needs, few)
+
+calm-split-calm-node-requires : (t : ℕ) → calm-split-lts.Need-calm-node-requires (
+  measured-reads.Asked,
+  measured-reads.Learnt,
+  lists-calm-reads.Asked,
+  lists-calm-reads.Learnt,
+  stopped-reads.Asked,
+  stopped-reads.Learnt,
+  calm-node-below t,
+  calm-node.Post,
+  minimum-at-reads.Asked,
+  minimum-at-reads.Learnt,
   melts-in-reads.Asked,
   melts-in-reads.Learnt,
 ) (calm-split-at t) calm-split.Post calm-split-Inv-loop calm-split-μ-loop
 calm-split-calm-node-requires t c κs =
-    let hd = c .before .before .before .before .before .before .before .before .before .before .before in
-    let b = hd .before in
+    let hd = c .before .before .before .before .before .before .before .before .before in
+    let b = hd .before .before in
     let x = b .args in
     let G = b .pre .1 .0 in
     let ns = nodesFrom (x .heads .now) (x .ids .now) (x .shares .now) (x .minima .now) in
-    let a = axisFrom (getD (getD (x .heads .now) (x .id) []) 1 0) in
-    let H = hd .hold .ensures in
-    let rows = hd .hold .result .rows in
+    let h = getD (x .heads .now) (x .id) [] in
+    let xs = getD (x .ids .now) (x .id) [] in
+    let ss = getD (x .shares .now) (x .id) [] in
+    let ms = getD (x .minima .now) (x .id) [] in
+    let a = axisFrom (getD h 1 0) in
     let again = calm (x .depth) ns in
-    let es = entriesOf rows in
-    let lp = c .before .before .before .before in
-    let inv = lp .loop .inv (Tree.reals (rows .shares)) (H .shares) in
-    let j = lp .loop .j in (
+    let few = G .slim (x .id) .0 in
+    let R = hd .before .measured .ensures in
+    let ok = hd .lists-calm .result in
+    let told = hd .lists-calm .ensures in
+    let inv = c .before .before .before .before .loop .inv few R in (
       omega (arith, b .pre .0),
       (
         record { heads = G .heads; ids = G .ids; shares = G .shares; minima = G .minima; flags = inv .flags; slim = G .slim },
@@ -635,261 +810,255 @@ calm-split-calm-node-requires t c κs =
     )
 
 calm-split-stopped-requires-2 : (t : ℕ) → calm-split-lts.Need-stopped-requires-2 (
-  hold-reads.Asked,
-  hold-reads.Learnt,
+  measured-reads.Asked,
+  measured-reads.Learnt,
+  lists-calm-reads.Asked,
+  lists-calm-reads.Learnt,
   stopped-reads.Asked,
   stopped-reads.Learnt,
-  ids-get-reads.Asked,
-  ids-get-reads.Learnt,
   calm-node-below t,
   calm-node.Post,
-  reals-get-reads.Asked,
-  reals-get-reads.Learnt,
+  minimum-at-reads.Asked,
+  minimum-at-reads.Learnt,
   melts-in-reads.Asked,
   melts-in-reads.Learnt,
 ) (calm-split-at t) calm-split.Post calm-split-Inv-loop calm-split-μ-loop
 calm-split-stopped-requires-2 t c κs = tt
 
 calm-split-returns-2 : (t : ℕ) → calm-split-lts.Need-returns-2 (
-  hold-reads.Asked,
-  hold-reads.Learnt,
+  measured-reads.Asked,
+  measured-reads.Learnt,
+  lists-calm-reads.Asked,
+  lists-calm-reads.Learnt,
   stopped-reads.Asked,
   stopped-reads.Learnt,
-  ids-get-reads.Asked,
-  ids-get-reads.Learnt,
   calm-node-below t,
   calm-node.Post,
-  reals-get-reads.Asked,
-  reals-get-reads.Learnt,
+  minimum-at-reads.Asked,
+  minimum-at-reads.Learnt,
   melts-in-reads.Asked,
   melts-in-reads.Learnt,
 ) (calm-split-at t) calm-split.Post calm-split-Inv-loop calm-split-μ-loop
 calm-split-returns-2 t c =
-    let hd = c .before .before .before .before .before .before .before .before .before .before .before .before .before .before .before in
-    let b = hd .before in
+    let hd = c .before .before .before .before .before .before .before .before .before .before .before .before .before in
+    let b = hd .before .before in
     let x = b .args in
     let G = b .pre .1 .0 in
     let ns = nodesFrom (x .heads .now) (x .ids .now) (x .shares .now) (x .minima .now) in
-    let a = axisFrom (getD (getD (x .heads .now) (x .id) []) 1 0) in
-    let H = hd .hold .ensures in
-    let rows = hd .hold .result .rows in
+    let h = getD (x .heads .now) (x .id) [] in
+    let xs = getD (x .ids .now) (x .id) [] in
+    let ss = getD (x .shares .now) (x .id) [] in
+    let ms = getD (x .minima .now) (x .id) [] in
+    let a = axisFrom (getD h 1 0) in
     let again = calm (x .depth) ns in
-    let es = entriesOf rows in
+    let few = G .slim (x .id) .0 in
+    let R = hd .before .measured .ensures in
+    let ok = hd .lists-calm .result in
+    let told = hd .lists-calm .ensures in
+    let yes = not-false ok (c .before .before .before .before .before .before .before .before .before .before .before .before .if1 .left) in
     let lp = c .before .before .before .before .before .before .before .before in
-    let inv = lp .loop .inv (Tree.reals (rows .shares)) (H .shares) in
-    let j = lp .loop .j in
-    let yes = ap (λ (q : Bool). cond q (calmKids again ns a es (some (look (x .claimed .now) (take (x .n) (x .seen .now))))) none) (not-false (hd .hold .result .ok) (c .before .before .before .before .before .before .before .before .before .before .before .before .before .if1 .left)) in
-    let all = H .right again ns a (look (x .claimed .now) (take (x .n) (x .seen .now))) ∙ yes in
+    let inv = lp .loop .inv few R in
     let lt = c .before .before .before .before .before .before .before .loop-test .taken in
-    let g = c .before .before .before .before .before .before .get in
     let w = c .before .before .before .calm-node in
-    let is = Tree.ids (rows .children) in
-    let ms = Tree.reals (rows .minima) in
-    let long = entries-long is (Tree.reals (rows .shares)) ms (H .shares ∙ sym (H .children)) (H .minima ∙ sym (H .children)) in
-    let at = entries-at is (Tree.reals (rows .shares)) ms j (entry (tile 0) zero-f zero-f) (omega (arith, lt, H .children)) (H .shares ∙ sym (H .children)) (H .minima ∙ sym (H .children)) in
-    ends _ (x .claimed .now) (w .last .1 .1 .1 .1 .0) (x .n) (w .last .1 .1 .1 .1 .1 .0) (c .stopped2 .result) (going-stop again ns a es (x .claimed .now) (x .seen .now) (x .n) (lp .loop .claimed) (lp .loop .seen) (lp .loop .m) j inv (entry (tile 0) zero-f zero-f) (omega (arith, lt, long, H .children)) (g .result) (getD (Tree.reals (rows .shares)) j zero-f) (getD ms j zero-f) (at ∙ (λ z. entry (tile (sym (g .ensures) z)) (getD (Tree.reals (rows .shares)) j zero-f) (getD ms j zero-f))) (w .last .1 .1 .1 .1 .0) (w .last .1 .1 .1 .1 .1 .0) (w .result) (w .ensures) (not-true (w .result .ok) (c .before .if2 .taken)) ∙ sym all)
-    (c .stopped2 .ensures .0) (w .ensures .flags) (omega (arith, c .stopped2 .ensures .1, going-room again ns a es (x .claimed .now) (x .seen .now) (x .n) (lp .loop .claimed) (lp .loop .seen) (lp .loop .m) j inv (entry (tile 0) zero-f zero-f) (omega (arith, lt, long, H .children)) (g .result) (getD (Tree.reals (rows .shares)) j zero-f) (getD ms j zero-f) (at ∙ (λ z. entry (tile (sym (g .ensures) z)) (getD (Tree.reals (rows .shares)) j zero-f) (getD ms j zero-f))) (w .last .1 .1 .1 .1 .0) (w .last .1 .1 .1 .1 .1 .0) (w .result) (w .ensures)))
+    kid-stops again ns a h xs ss ms few R (x .claimed .now) (x .seen .now) (x .n) ok told yes (lp .loop .claimed) (lp .loop .seen) (lp .loop .m) (lp .loop .j) inv lt (w .last .1 .1 .1 .1 .0) (w .last .1 .1 .1 .1 .1 .0) (w .result) (w .ensures) (not-true (w .result .ok) (c .before .if2 .taken)) (c .stopped2 .result) (c .stopped2 .ensures .0) (c .stopped2 .ensures .1)
 
-calm-split-get-requires-2 : (t : ℕ) → calm-split-lts.Need-get-requires-2 (
-  hold-reads.Asked,
-  hold-reads.Learnt,
+calm-split-minimum-at-requires : (t : ℕ) → calm-split-lts.Need-minimum-at-requires (
+  measured-reads.Asked,
+  measured-reads.Learnt,
+  lists-calm-reads.Asked,
+  lists-calm-reads.Learnt,
   stopped-reads.Asked,
   stopped-reads.Learnt,
-  ids-get-reads.Asked,
-  ids-get-reads.Learnt,
   calm-node-below t,
   calm-node.Post,
-  reals-get-reads.Asked,
-  reals-get-reads.Learnt,
+  minimum-at-reads.Asked,
+  minimum-at-reads.Learnt,
   melts-in-reads.Asked,
   melts-in-reads.Learnt,
 ) (calm-split-at t) calm-split.Post calm-split-Inv-loop calm-split-μ-loop
-calm-split-get-requires-2 t c κs = tt
+calm-split-minimum-at-requires t c κs =
+    let hd = c .before .before .before .before .before .before .before .before .before .before .before .before in
+    let b = hd .before .before in
+    let p = b .pre .1 in
+    (p .2, p .0 .slim (b .args .id) .2, p .0 .minima, hd .before .measured .ensures .minima)
 
 calm-split-melts-in-requires : (t : ℕ) → calm-split-lts.Need-melts-in-requires (
-  hold-reads.Asked,
-  hold-reads.Learnt,
+  measured-reads.Asked,
+  measured-reads.Learnt,
+  lists-calm-reads.Asked,
+  lists-calm-reads.Learnt,
   stopped-reads.Asked,
   stopped-reads.Learnt,
-  ids-get-reads.Asked,
-  ids-get-reads.Learnt,
   calm-node-below t,
   calm-node.Post,
-  reals-get-reads.Asked,
-  reals-get-reads.Learnt,
+  minimum-at-reads.Asked,
+  minimum-at-reads.Learnt,
   melts-in-reads.Asked,
   melts-in-reads.Learnt,
 ) (calm-split-at t) calm-split.Post calm-split-Inv-loop calm-split-μ-loop
-calm-split-melts-in-requires t c κs = c .before .before .before .before .before .before .before .before .before .before .before .before .before .before .before .before .pre .1 .0 .heads
+calm-split-melts-in-requires t c κs = c .before .before .before .before .before .before .before .before .before .before .before .before .before .before .before .pre .1 .0 .heads
 
 calm-split-stopped-requires-3 : (t : ℕ) → calm-split-lts.Need-stopped-requires-3 (
-  hold-reads.Asked,
-  hold-reads.Learnt,
+  measured-reads.Asked,
+  measured-reads.Learnt,
+  lists-calm-reads.Asked,
+  lists-calm-reads.Learnt,
   stopped-reads.Asked,
   stopped-reads.Learnt,
-  ids-get-reads.Asked,
-  ids-get-reads.Learnt,
   calm-node-below t,
   calm-node.Post,
-  reals-get-reads.Asked,
-  reals-get-reads.Learnt,
+  minimum-at-reads.Asked,
+  minimum-at-reads.Learnt,
   melts-in-reads.Asked,
   melts-in-reads.Learnt,
 ) (calm-split-at t) calm-split.Post calm-split-Inv-loop calm-split-μ-loop
 calm-split-stopped-requires-3 t c κs = tt
 
 calm-split-returns-3 : (t : ℕ) → calm-split-lts.Need-returns-3 (
-  hold-reads.Asked,
-  hold-reads.Learnt,
+  measured-reads.Asked,
+  measured-reads.Learnt,
+  lists-calm-reads.Asked,
+  lists-calm-reads.Learnt,
   stopped-reads.Asked,
   stopped-reads.Learnt,
-  ids-get-reads.Asked,
-  ids-get-reads.Learnt,
   calm-node-below t,
   calm-node.Post,
-  reals-get-reads.Asked,
-  reals-get-reads.Learnt,
+  minimum-at-reads.Asked,
+  minimum-at-reads.Learnt,
   melts-in-reads.Asked,
   melts-in-reads.Learnt,
 ) (calm-split-at t) calm-split.Post calm-split-Inv-loop calm-split-μ-loop
-unfolding ofBits
 calm-split-returns-3 t c =
-    let hd = c .before .before .before .before .before .before .before .before .before .before .before .before .before .before .before .before .before .before in
-    let b = hd .before in
+    let hd = c .before .before .before .before .before .before .before .before .before .before .before .before .before .before .before .before in
+    let b = hd .before .before in
     let x = b .args in
     let G = b .pre .1 .0 in
     let ns = nodesFrom (x .heads .now) (x .ids .now) (x .shares .now) (x .minima .now) in
-    let a = axisFrom (getD (getD (x .heads .now) (x .id) []) 1 0) in
-    let H = hd .hold .ensures in
-    let rows = hd .hold .result .rows in
+    let h = getD (x .heads .now) (x .id) [] in
+    let xs = getD (x .ids .now) (x .id) [] in
+    let ss = getD (x .shares .now) (x .id) [] in
+    let ms = getD (x .minima .now) (x .id) [] in
+    let a = axisFrom (getD h 1 0) in
     let again = calm (x .depth) ns in
-    let es = entriesOf rows in
+    let few = G .slim (x .id) .0 in
+    let R = hd .before .measured .ensures in
+    let ok = hd .lists-calm .result in
+    let told = hd .lists-calm .ensures in
+    let yes = not-false ok (c .before .before .before .before .before .before .before .before .before .before .before .before .before .before .before .if1 .left) in
     let lp = c .before .before .before .before .before .before .before .before .before .before .before in
-    let inv = lp .loop .inv (Tree.reals (rows .shares)) (H .shares) in
-    let j = lp .loop .j in
-    let yes = ap (λ (q : Bool). cond q (calmKids again ns a es (some (look (x .claimed .now) (take (x .n) (x .seen .now))))) none) (not-false (hd .hold .result .ok) (c .before .before .before .before .before .before .before .before .before .before .before .before .before .before .before .before .if1 .left)) in
-    let all = H .right again ns a (look (x .claimed .now) (take (x .n) (x .seen .now))) ∙ yes in
+    let inv = lp .loop .inv few R in
     let lt = c .before .before .before .before .before .before .before .before .before .before .loop-test .taken in
-    let g = c .before .before .before .before .before .before .before .before .before .get in
     let w = c .before .before .before .before .before .before .calm-node in
-    let is = Tree.ids (rows .children) in
-    let ms = Tree.reals (rows .minima) in
-    let long = entries-long is (Tree.reals (rows .shares)) ms (H .shares ∙ sym (H .children)) (H .minima ∙ sym (H .children)) in
-    let at = entries-at is (Tree.reals (rows .shares)) ms j (entry (tile 0) zero-f zero-f) (omega (arith, lt, H .children)) (H .shares ∙ sym (H .children)) (H .minima ∙ sym (H .children)) in
-    let gm = c .before .before .before .get2 in
-    let me = c .before .before .melts-in in
-    ends _ (x .claimed .now) (w .last .1 .1 .1 .1 .0) (x .n) (w .last .1 .1 .1 .1 .1 .0) (c .stopped3 .result)
-    (going-melts again ns a es (x .claimed .now) (x .seen .now) (x .n) (lp .loop .claimed) (lp .loop .seen) (lp .loop .m) j inv (entry (tile 0) zero-f zero-f) (omega (arith, lt, long, H .children)) (g .result) (getD (Tree.reals (rows .shares)) j zero-f) (gm .result) (at ∙ (λ z. entry (tile (sym (g .ensures) z)) (getD (Tree.reals (rows .shares)) j zero-f) (sym (gm .ensures) z))) (w .last .1 .1 .1 .1 .0) (w .last .1 .1 .1 .1 .1 .0) (w .result) (w .ensures) (not-false (w .result .ok) (c .before .before .before .before .if2 .left)) (sym (me .ensures (x .ids .now) (x .shares .now) (x .minima .now) (G .ids) (G .shares) (G .minima)) ∙ c .before .if3 .taken) ∙ sym all)
-    (c .stopped3 .ensures .0) (w .ensures .flags) (omega (arith, c .stopped3 .ensures .1, going-room again ns a es (x .claimed .now) (x .seen .now) (x .n) (lp .loop .claimed) (lp .loop .seen) (lp .loop .m) j inv (entry (tile 0) zero-f zero-f) (omega (arith, lt, long, H .children)) (g .result) (getD (Tree.reals (rows .shares)) j zero-f) (gm .result) (at ∙ (λ z. entry (tile (sym (g .ensures) z)) (getD (Tree.reals (rows .shares)) j zero-f) (sym (gm .ensures) z))) (w .last .1 .1 .1 .1 .0) (w .last .1 .1 .1 .1 .1 .0) (w .result) (w .ensures)))
+    kid-melts again ns a h xs ss ms few R (x .claimed .now) (x .seen .now) (x .n) ok told yes (lp .loop .claimed) (lp .loop .seen) (lp .loop .m) (lp .loop .j) inv lt (w .last .1 .1 .1 .1 .0) (w .last .1 .1 .1 .1 .1 .0) (w .result) (w .ensures) (not-false (w .result .ok) (c .before .before .before .before .if2 .left)) (c .before .before .before .minimum-at .result) (c .before .before .before .minimum-at .ensures) (c .before .before .melts-in .result) (c .before .before .melts-in .ensures (x .ids .now) (x .shares .now) (x .minima .now) (G .ids) (G .shares) (G .minima)) (c .before .if3 .taken)
+    (c .stopped3 .result) (c .stopped3 .ensures .0) (c .stopped3 .ensures .1)
 
 calm-split-add-j : (t : ℕ) → calm-split-lts.Need-add-j (
-  hold-reads.Asked,
-  hold-reads.Learnt,
+  measured-reads.Asked,
+  measured-reads.Learnt,
+  lists-calm-reads.Asked,
+  lists-calm-reads.Learnt,
   stopped-reads.Asked,
   stopped-reads.Learnt,
-  ids-get-reads.Asked,
-  ids-get-reads.Learnt,
   calm-node-below t,
   calm-node.Post,
-  reals-get-reads.Asked,
-  reals-get-reads.Learnt,
+  minimum-at-reads.Asked,
+  minimum-at-reads.Learnt,
   melts-in-reads.Asked,
   melts-in-reads.Learnt,
 ) (calm-split-at t) calm-split.Post calm-split-Inv-loop calm-split-μ-loop
-calm-split-add-j t c = search needs
+calm-split-add-j t c =
+    let b = c .before .before .before .before .before .before .before .before .before .before .before .before .before .before .before .before .before in
+    let few = b .pre .1 .0 .slim (b .args .id) .0 in
+    let lt = c .before .before .before .before .before .before .before .before .before .loop-test .taken in
+    search (needs, few, lt)
 
 calm-split-loop-less : (t : ℕ) → calm-split-lts.Need-loop-less (
-  hold-reads.Asked,
-  hold-reads.Learnt,
+  measured-reads.Asked,
+  measured-reads.Learnt,
+  lists-calm-reads.Asked,
+  lists-calm-reads.Learnt,
   stopped-reads.Asked,
   stopped-reads.Learnt,
-  ids-get-reads.Asked,
-  ids-get-reads.Learnt,
   calm-node-below t,
   calm-node.Post,
-  reals-get-reads.Asked,
-  reals-get-reads.Learnt,
+  minimum-at-reads.Asked,
+  minimum-at-reads.Learnt,
   melts-in-reads.Asked,
   melts-in-reads.Learnt,
 ) (calm-split-at t) calm-split.Post calm-split-Inv-loop calm-split-μ-loop
 calm-split-loop-less t c = omega (arith, c .before .before .before .before .before .before .before .before .before .loop-test .taken)
 
 calm-split-loop-again : (t : ℕ) → calm-split-lts.Need-loop-again (
-  hold-reads.Asked,
-  hold-reads.Learnt,
+  measured-reads.Asked,
+  measured-reads.Learnt,
+  lists-calm-reads.Asked,
+  lists-calm-reads.Learnt,
   stopped-reads.Asked,
   stopped-reads.Learnt,
-  ids-get-reads.Asked,
-  ids-get-reads.Learnt,
   calm-node-below t,
   calm-node.Post,
-  reals-get-reads.Asked,
-  reals-get-reads.Learnt,
+  minimum-at-reads.Asked,
+  minimum-at-reads.Learnt,
   melts-in-reads.Asked,
   melts-in-reads.Learnt,
 ) (calm-split-at t) calm-split.Post calm-split-Inv-loop calm-split-μ-loop
-unfolding ofBits
 calm-split-loop-again t c =
-    let hd = c .before .before .before .before .before .before .before .before .before .before .before .before .before .before .before .before .before in
-    let b = hd .before in
+    let hd = c .before .before .before .before .before .before .before .before .before .before .before .before .before .before .before in
+    let b = hd .before .before in
     let x = b .args in
     let G = b .pre .1 .0 in
     let ns = nodesFrom (x .heads .now) (x .ids .now) (x .shares .now) (x .minima .now) in
-    let a = axisFrom (getD (getD (x .heads .now) (x .id) []) 1 0) in
-    let H = hd .hold .ensures in
-    let rows = hd .hold .result .rows in
+    let h = getD (x .heads .now) (x .id) [] in
+    let xs = getD (x .ids .now) (x .id) [] in
+    let ss = getD (x .shares .now) (x .id) [] in
+    let ms = getD (x .minima .now) (x .id) [] in
+    let a = axisFrom (getD h 1 0) in
     let again = calm (x .depth) ns in
-    let es = entriesOf rows in
+    let few = G .slim (x .id) .0 in
+    let R = hd .before .measured .ensures in
+    let ok = hd .lists-calm .result in
+    let told = hd .lists-calm .ensures in
+    let yes = not-false ok (c .before .before .before .before .before .before .before .before .before .before .before .before .before .before .if1 .left) in
     let lp = c .before .before .before .before .before .before .before .before .before .before in
-    let j = lp .loop .j in
-    λ ss l.
-    let inv = lp .loop .inv ss l in
     let lt = c .before .before .before .before .before .before .before .before .before .loop-test .taken in
-    let g = c .before .before .before .before .before .before .before .before .get in
     let w = c .before .before .before .before .before .calm-node in
-    let is = Tree.ids (rows .children) in
-    let ms = Tree.reals (rows .minima) in
-    let long = entries-long is ss ms (l ∙ sym (H .children)) (H .minima ∙ sym (H .children)) in
-    let at = entries-at is ss ms j (entry (tile 0) zero-f zero-f) (omega (arith, lt, H .children)) (l ∙ sym (H .children)) (H .minima ∙ sym (H .children)) in
-    let gm = c .before .before .get2 in
-    let me = c .before .melts-in in
-    going-more again ns a (entries (map tile is) ss ms) (x .claimed .now) (x .seen .now) (x .n) (lp .loop .claimed) (lp .loop .seen) (lp .loop .m) j inv (entry (tile 0) zero-f zero-f) (omega (arith, lt, long, H .children)) (g .result) (getD ss j zero-f) (gm .result) (at ∙ (λ z. entry (tile (sym (g .ensures) z)) (getD ss j zero-f) (sym (gm .ensures) z))) (w .last .1 .1 .1 .1 .0) (w .last .1 .1 .1 .1 .1 .0) (w .result) (w .ensures) (not-false (w .result .ok) (c .before .before .before .if2 .left)) (sym (me .ensures (x .ids .now) (x .shares .now) (x .minima .now) (G .ids) (G .shares) (G .minima)) ∙ c .if3 .left)
+    λ few R.
+    let inv = lp .loop .inv few R in
+    kid-stays again ns a h xs ss ms few R (x .claimed .now) (x .seen .now) (x .n) ok told yes (lp .loop .claimed) (lp .loop .seen) (lp .loop .m) (lp .loop .j) inv lt (w .last .1 .1 .1 .1 .0) (w .last .1 .1 .1 .1 .1 .0) (w .result) (w .ensures) (not-false (w .result .ok) (c .before .before .before .if2 .left)) (c .before .before .minimum-at .result) (c .before .before .minimum-at .ensures) (c .before .melts-in .result) (c .before .melts-in .ensures (x .ids .now) (x .shares .now) (x .minima .now) (G .ids) (G .shares) (G .minima)) (c .if3 .left)
 
 calm-split-returns-4 : (t : ℕ) → calm-split-lts.Need-returns-4 (
-  hold-reads.Asked,
-  hold-reads.Learnt,
+  measured-reads.Asked,
+  measured-reads.Learnt,
+  lists-calm-reads.Asked,
+  lists-calm-reads.Learnt,
   stopped-reads.Asked,
   stopped-reads.Learnt,
-  ids-get-reads.Asked,
-  ids-get-reads.Learnt,
   calm-node-below t,
   calm-node.Post,
-  reals-get-reads.Asked,
-  reals-get-reads.Learnt,
+  minimum-at-reads.Asked,
+  minimum-at-reads.Learnt,
   melts-in-reads.Asked,
   melts-in-reads.Learnt,
 ) (calm-split-at t) calm-split.Post calm-split-Inv-loop calm-split-μ-loop
 calm-split-returns-4 t c =
-    let hd = c .before .before .before .before .before .before .before .before in
-    let b = hd .before in
+    let hd = c .before .before .before .before .before .before in
+    let b = hd .before .before in
     let x = b .args in
     let G = b .pre .1 .0 in
     let ns = nodesFrom (x .heads .now) (x .ids .now) (x .shares .now) (x .minima .now) in
-    let a = axisFrom (getD (getD (x .heads .now) (x .id) []) 1 0) in
-    let H = hd .hold .ensures in
-    let rows = hd .hold .result .rows in
+    let h = getD (x .heads .now) (x .id) [] in
+    let xs = getD (x .ids .now) (x .id) [] in
+    let ss = getD (x .shares .now) (x .id) [] in
+    let ms = getD (x .minima .now) (x .id) [] in
+    let a = axisFrom (getD h 1 0) in
     let again = calm (x .depth) ns in
-    let es = entriesOf rows in
+    let few = G .slim (x .id) .0 in
+    let R = hd .before .measured .ensures in
+    let ok = hd .lists-calm .result in
+    let told = hd .lists-calm .ensures in
+    let yes = not-false ok (c .before .before .before .before .before .if1 .left) in
     let lp = c .before in
-    let inv = lp .loop .inv (Tree.reals (rows .shares)) (H .shares) in
-    let j = lp .loop .j in
-    let yes = ap (λ (q : Bool). cond q (calmKids again ns a es (some (look (x .claimed .now) (take (x .n) (x .seen .now))))) none) (not-false (hd .hold .result .ok) (c .before .before .before .before .before .before .if1 .left)) in
-    let all = H .right again ns a (look (x .claimed .now) (take (x .n) (x .seen .now))) ∙ yes in
-    record {
-      flags = inv .flags;
-      room = inv .room;
-      right = going-done again ns a es (x .claimed .now) (x .seen .now) (x .n) (lp .loop .claimed) (lp .loop .seen) (lp .loop .m) j inv (omega (arith, c .loop-test .left, entries-long (Tree.ids (rows .children)) (Tree.reals (rows .shares)) (Tree.reals (rows .minima)) (H .shares ∙ sym (H .children)) (H .minima ∙ sym (H .children)), H .children)) ∙ sym all;
-    }
+    kids-done again ns a h xs ss ms few R (x .claimed .now) (x .seen .now) (x .n) ok told yes (lp .loop .claimed) (lp .loop .seen) (lp .loop .m) (lp .loop .j) (lp .loop .inv few R) (c .loop-test .left)
 
 pub +calm-node+calm-split-spec : {M : Type 1} → statement M
 +calm-node+calm-split-spec = close μ-calm-node μ-calm-split (λ t. calm-node-lts.spec (
@@ -928,16 +1097,16 @@ pub +calm-node+calm-split-spec : {M : Type 1} → statement M
     (calm-node-calm-split-requires t)
     (calm-node-returns-7 t))
     λ t. calm-split-lts.spec (
-      hold-reads.Asked,
-      hold-reads.Learnt,
+      measured-reads.Asked,
+      measured-reads.Learnt,
+      lists-calm-reads.Asked,
+      lists-calm-reads.Learnt,
       stopped-reads.Asked,
       stopped-reads.Learnt,
-      ids-get-reads.Asked,
-      ids-get-reads.Learnt,
       calm-node-below t,
       calm-node.Post,
-      reals-get-reads.Asked,
-      reals-get-reads.Learnt,
+      minimum-at-reads.Asked,
+      minimum-at-reads.Learnt,
       melts-in-reads.Asked,
       melts-in-reads.Learnt,
     )
@@ -945,18 +1114,28 @@ pub +calm-node+calm-split-spec : {M : Type 1} → statement M
     calm-split.Post
     calm-split-Inv-loop
     calm-split-μ-loop
-    (calm-split-hold-requires t)
+    (calm-split-measured-requires t)
+    (calm-split-lists-calm-requires t)
     (calm-split-stopped-requires t)
     (calm-split-returns t)
-    (calm-split-mul-h t)
-    (calm-split-element-copy-out-h t)
-    (calm-split-array-read-mode t)
+    (calm-split-mul-mode t)
+    (calm-split-index-1-mode t)
+    (calm-split-index-2-mode t)
+    (calm-split-mul-count t)
+    (calm-split-index-1-count t)
+    (calm-split-index-2-count t)
+    (calm-split-mul-least t)
+    (calm-split-index-1-least t)
+    (calm-split-index-2-least t)
     (calm-split-loop-holds t)
-    (calm-split-get-requires t)
+    (calm-split-mul-child t)
+    (calm-split-mul-child-2 t)
+    (calm-split-index-1-child t)
+    (calm-split-index-2-child t)
     (calm-split-calm-node-requires t)
     (calm-split-stopped-requires-2 t)
     (calm-split-returns-2 t)
-    (calm-split-get-requires-2 t)
+    (calm-split-minimum-at-requires t)
     (calm-split-melts-in-requires t)
     (calm-split-stopped-requires-3 t)
     (calm-split-returns-3 t)
