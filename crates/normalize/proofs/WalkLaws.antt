@@ -28,7 +28,7 @@ use Rattle.sifting.specs.Work.{Cols, cols, Sized, Shows}
 use Rattle.columns.specs.Columns.{nodeFrom, axisFrom}
 use Rattle.sifting.specs.Walked.{keptAs, reserve, Answers, Walked, Even, entriesOf, Placed}
 use Rattle.sifting.specs.Steps.{Dropped}
-use Rattle.melting.specs.Splits.{Loaded, Mends, BadNoted, Closed}
+use Rattle.melting.specs.Splits.{Loaded, Mends, BadNoted, kidsIn, Closed}
 use Rattle.normalize.specs.Opens.{Opens, isWide}
 use Rattle.sifting.specs.declared.Counts.{Counts}
 use Rattle.sifting.specs.declared.Kept.{Kept}
@@ -266,16 +266,18 @@ module _ (rows : Kids) (E : Even rows) (long : length (ids (rows .children)) ≡
     less : free (C₀ .claimed) ≡ suc (free (D .claimed))
     less = free-set (C₀ .claimed) id (omega (arith, S₀ .flags)) open-yet ∙ ap (λ (fs : List Bool). suc (free fs)) (sym (O .flags))
 
-    pub going-start : (k : Kids) → Even k → entriesOf k ≡ [] → k .moved ≡ false → Going rows C₀ D id mode given D k 0
-    going-start k even none′ still =
+    -- no child is kept yet, whatever stands in the arrays
+    pub going-start : (cs : List ℕ) (ss ms : List Float) → Going rows C₀ D id mode given D (kidsIn cs ss ms 0 false) 0
+    unfolding entries
+    going-start cs ss ms =
         record {
           within = omega arith;
           sized = O .sized;
-          even = even;
+          even = record { shares = refl; minima = refl; few = omega arith };
           fewer = omega arith;
           panes = omega arith;
           listing = omega arith;
-          right = λ w W f h. let (u, e, U, q) = O .right w W in (run [] false u, sym none′, sym still, U, before-start (claim (tile id) w .state) a false u e, q f);
+          right = λ w W f h. let (u, e, U, q) = O .right w W in (run [] false u, refl, refl, U, before-start (claim (tile id) w .state) a false u e, q f);
         }
 
     claim-good : (w : Work) → Shows C₀ w → Good (claim (tile id) w .state)
@@ -440,7 +442,7 @@ module _ {rows : Kids} {C₀ D : Cols} {id mode : ℕ} {given : Reals} (X : Ctx 
   less-free : free (C₀ .claimed) ≡ suc (free (D .claimed))
   less-free = less rows (X .opens .even) (X .long) (X .long-shares) (X .long-minima) C₀ D id mode given (X .sized) (X .inside) (X .open-yet) (X .opens)
 
-  pub start : (k : Kids) → Even k → entriesOf k ≡ [] → k .moved ≡ false → Going rows C₀ D id mode given D k 0
+  pub start : (cs : List ℕ) (ss ms : List Float) → Going rows C₀ D id mode given D (kidsIn cs ss ms 0 false) 0
   start = going-start rows (X .opens .even) (X .long) (X .long-shares) (X .long-minima) C₀ D id mode given (X .sized) (X .inside) (X .open-yet) (X .opens)
 
   module _ {C : Cols} {k : Kids} {j : ℕ} (G : Going rows C₀ D id mode given C k j) where
