@@ -10,7 +10,7 @@ use native.Mathlib.Omega.{arith}
 use borrow.Author.Tests.{ne-eqb, eqb-true}
 use lib.Dec.{eqb}
 use lib.ListN.{length, getD, take, drop, set, length-set, length-map, length-append, length-replicate, drop-of-length-le}
-use lib.Seq.{drop-cons, length-take-le, take-suc-set}
+use lib.Seq.{drop-cons, length-take-le, take-suc-set, getD-take}
 use lib.Ieee.{Float, eq}
 use Rattle.rules.specs.Numbers.{zero-f, one-f, shareOk}
 use Rattle.rules.specs.Lists.{anyOf}
@@ -86,6 +86,15 @@ module _ (k : Kids) (v : Even k) (g : Long k) where
       → getD (entriesOf k) j e ≡ entry (tile (getD (ids (k .children)) j x)) (getD (reals (k .shares)) j s) (getD (reals (k .minima)) j m)
   even-at j x s m e h =
       zipped-at (ids (k .children)) (reals (k .shares)) (reals (k .minima)) j x s m e even-shares even-minima (omega (arith, even-children))
+
+  -- the same, read off the arrays
+  pub even-read : (j x : ℕ) (s m : Float) (e : Entry) → j < k .children .len
+      → getD (entriesOf k) j e ≡ entry (tile (getD (k .children .at) j x)) (getD (k .shares .at) j s) (getD (k .minima .at) j m)
+  even-read j x s m e h =
+      even-at j x s m e h
+      ∙ (λ i. entry (tile (getD-take (k .children .len) (k .children .at) j x h i))
+      (getD-take (k .shares .len) (k .shares .at) j s (omega (arith, v .shares)) i)
+      (getD-take (k .minima .len) (k .minima .at) j m (omega (arith, v .minima)) i))
 
 -- ---- one child more, in place
 

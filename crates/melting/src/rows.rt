@@ -1,8 +1,6 @@
 // A split's lists: loaded from its slot and mended, by value; the children that are kept placed one by one or melted in, in three lent arrays.
 use crate::Placing;
 use crate::Tally;
-use lists::ids as id_list;
-use real_lists::reals;
 use rules::model::Ids;
 use rules::model::Reals;
 use sifting::Counts;
@@ -111,9 +109,9 @@ fn melt_all(
     let m = children.len;
     let mut j = 0usize;
     while j < m {
-        let child = id_list::get(children, j, 0);
-        let own = reals::get(shares, j, 0.0);
-        let minimum = reals::get(minima, j, 0.0);
+        let child = children.at[j];
+        let own = shares.at[j];
+        let minimum = minima.at[j];
         push3(cs, ss, ms, n + j, child, share * own, minimum);
         j += 1;
     }

@@ -8,9 +8,9 @@ use native.Mathlib.Numerals.{add-one}
 use native.Mathlib.Omega.{arith}
 use native.Mathlib.Nat.{not-suc-le-zero, le-of-suc-le-suc}
 use borrow.Author.Tests.{le-leb, lt-leb}
-use lib.ListN.{length, take, drop, getD, set, length-set, length-map, drop-of-length-le}
+use lib.ListN.{length, take, drop, getD, set, length-set, length-map, length-take, drop-of-length-le}
 use lib.Seq.{drop-cons}
-use lib.Ieee.{Float}
+use lib.Ieee.{Float, nan}
 use Rattle.rules.specs.Numbers.{zero-f}
 use Rattle.rules.specs.Shares.{repairedShares}
 use Rattle.rules.specs.Minima.{alignedConstraints}
@@ -19,6 +19,7 @@ use Rattle.rules.specs.Repair.{State, Work, Out, gone, claim, Entry, entry, ent
 use Rattle.rules.specs.declared.model.TileId.{TileId}
 use Rattle.rules.specs.declared.model.Axis.{Axis}
 use Rattle.rules.specs.declared.model.Reals.{Reals}
+use Rattle.lists.specs.Places.{getD-used}
 use Rattle.forest.specs.Lists.{All, never, free, free-set, all-getD}
 use Rattle.forest.specs.Codec.{Least, start-least}
 use Rattle.forest.specs.Grow.{Good, tile-keeps, claimed}
@@ -444,6 +445,21 @@ module _ {rows : Kids} {C₀ D : Cols} {id mode : ℕ} {given : Reals} (X : Ctx 
 
   pub start : (cs : List ℕ) (ss ms : List Float) → Going rows C₀ D id mode given D (kidsIn cs ss ms 0 false) 0
   start = going-start rows (X .opens .even) (X .long) (X .long-shares) (X .long-minima) C₀ D id mode given (X .sized) (X .inside) (X .open-yet) (X .opens)
+
+  -- the entries of a split's lists, read off its arrays
+  module _ (j : ℕ) (lt : j < rows .children .len) where
+    pub child-read : getD (rows .children .at) j 0 ≡ getD (ids (rows .children)) j 0
+    child-read = getD-used (rows .children .len) (rows .children .at) j 0 0 lt (omega (arith, X .long, length-take (rows .children .len) (rows .children .at)))
+
+    pub share-read : getD (reals (rows .shares)) j zero-f ≡ getD (rows .shares .at) j nan
+    share-read =
+        sym (getD-used (rows .shares .len) (rows .shares .at) j zero-f nan (omega (arith, X .opens .even .shares))
+        (omega (arith, X .opens .even .shares, X .long-shares, length-take (rows .shares .len) (rows .shares .at))))
+
+    pub minimum-read : getD (reals (rows .minima)) j zero-f ≡ getD (rows .minima .at) j nan
+    minimum-read =
+        sym (getD-used (rows .minima .len) (rows .minima .at) j zero-f nan (omega (arith, X .opens .even .minima))
+        (omega (arith, X .opens .even .minima, X .long-minima, length-take (rows .minima .len) (rows .minima .at))))
 
   module _ {C : Cols} {k : Kids} {j : ℕ} (G : Going rows C₀ D id mode given C k j) where
     -- the measure falls, and there is room for what a child may list

@@ -1,10 +1,8 @@
 // normalize_node and normalize_split: a tile's repair calls a split's repair, which calls back. Slots that are not claimed grow fewer.
 use crate::Opened;
 use keeping::splits;
-use lists::ids as id_list;
 use melting::Tally;
 use melting::rows;
-use real_lists::reals;
 use sifting::Counts;
 use sifting::Kept;
 use sifting::Kids;
@@ -142,7 +140,7 @@ fn normalize_split(
     };
     let mut j = 0usize;
     while j < n {
-        let child = id_list::get(children, j, 0);
+        let child = children.at[j];
         let w = normalize_node(
             heads,
             ids,
@@ -162,8 +160,8 @@ fn normalize_split(
                 counts: after,
             };
         }
-        let share = reals::get(olds, j, 0.0);
-        let minimum = reals::get(least, j, 0.0);
+        let share = olds.at[j];
+        let minimum = least.at[j];
         let p = splits::place(
             heads,
             ids,

@@ -1,16 +1,15 @@
 -- `melting::rows::melt_all` pushes each child of the split that is melted in. Assumes nothing.
-use mathlib.Core.Path.{sym, _∙_}
 use mathlib.Core.Bool.{true}
 use Prim.Native.Nat.{_+_, _-_}
 use native.Mathlib.Omega.{arith}
 use borrow.Author.Needs.{needs}
-use lib.Ieee.{ofBits}
+use lib.Ieee.{nan}
 use Rattle.rules.specs.Numbers.{zero-f}
 use Rattle.rules.specs.Tree.{tile, ids, reals}
 use Rattle.rules.specs.Repair.{Entry, entry}
 use Rattle.sifting.specs.Walked.{entriesOf}
 use Rattle.melting.specs.Splits.{Long}
-use Rattle.melting.proofs.SplitLaws.{zipped, Melted, melting-start, melting-more, melting-done, grown-one, even-count, even-at}
+use Rattle.melting.proofs.SplitLaws.{zipped, Melted, melting-start, melting-more, melting-done, grown-one, even-count, even-read}
 use Rattle.melting.proofs.rows.melt_all.Statement.{statement}
 use Rattle.melting.proofs.rows.melt_all.Tie as tie
 
@@ -33,14 +32,23 @@ loop-holds c =
     let a = o .args in
     melting-start (a .cs .now) (a .ss .now) (a .ms .now) (a .n) (entriesOf (a .sub)) (a .share) (o .pre .0)
 
-get-requires : tie.Need-get-requires Inv-loop μ-loop
-get-requires c κs = search needs
+mul-child : tie.Need-mul-child Inv-loop μ-loop
+mul-child c = omega (arith, c .loop-test .taken, c .before .before .before .before .before .pre .2)
 
-get-requires-2 : tie.Need-get-requires-2 Inv-loop μ-loop
-get-requires-2 c κs = search needs
+element-copy-out-child : tie.Need-element-copy-out-child Inv-loop μ-loop
+element-copy-out-child c = omega (arith, c .loop-test .taken, c .before .before .before .before .before .pre .2)
 
-get-requires-3 : tie.Need-get-requires-3 Inv-loop μ-loop
-get-requires-3 c κs = search needs
+mul-own : tie.Need-mul-own Inv-loop μ-loop
+mul-own c = omega (arith, c .before .loop-test .taken, c .before .before .before .before .before .before .pre .2)
+
+element-copy-out-own : tie.Need-element-copy-out-own Inv-loop μ-loop
+element-copy-out-own c = omega (arith, c .before .loop-test .taken, c .before .before .before .before .before .before .pre .2)
+
+mul-minimum : tie.Need-mul-minimum Inv-loop μ-loop
+mul-minimum c = omega (arith, c .before .before .loop-test .taken, c .before .before .before .before .before .before .before .pre .2)
+
+element-copy-out-minimum : tie.Need-element-copy-out-minimum Inv-loop μ-loop
+element-copy-out-minimum c = omega (arith, c .before .before .loop-test .taken, c .before .before .before .before .before .before .before .pre .2)
 
 add-push3 : tie.Need-add-push3 Inv-loop μ-loop
 add-push3 c =
@@ -62,12 +70,8 @@ loop-less : tie.Need-loop-less Inv-loop μ-loop
 loop-less c = omega arith
 
 loop-again : tie.Need-loop-again Inv-loop μ-loop
-unfolding ofBits
 loop-again c =
-    let g3 = c .before .before .before .before in
-    let g2 = g3 .before in
-    let g1 = g2 .before in
-    let i = g1 .before in
+    let i = c .before .before .before .before .before .before .before in
     let q = i .before in
     let o = q .before .before .before .before in
     let a = o .args in
@@ -79,7 +83,7 @@ loop-again c =
     let s = p .last in
     melting-more (a .cs .now) (a .ss .now) (a .ms .now) (a .n) (entriesOf b) (a .share) (l .cs) (l .ss) (l .ms) (l .j) _ none (s .0) (s .1 .0) (s .1 .1 .0) (l .inv)
     (omega (arith, even-count b (o .pre .1) g, h))
-    (even-at b (o .pre .1) g (l .j) 0 zero-f zero-f none h ∙ sym (λ i. entry (tile (g1 .get .ensures i)) (g2 .get2 .ensures i) (g3 .get3 .ensures i)))
+    (even-read b (o .pre .1) g (l .j) 0 nan nan none h)
     (grown-one (l .cs) (l .ss) (l .ms) (a .n + l .j) true true (l .inv .lent) (omega (arith, h, o .pre .2)) _ _ _ (s .0) (s .1 .0) (s .1 .1 .0) (p .ensures .0) (p .ensures .1) (p .ensures .2))
 
 returns : tie.Need-returns Inv-loop μ-loop
@@ -97,9 +101,12 @@ melt-all-spec =
     Inv-loop
     μ-loop
     loop-holds
-    get-requires
-    get-requires-2
-    get-requires-3
+    mul-child
+    element-copy-out-child
+    mul-own
+    element-copy-out-own
+    mul-minimum
+    element-copy-out-minimum
     add-push3
     push3-requires
     add-j
