@@ -1,9 +1,8 @@
 // The parts of normalize_split that call nothing back: bad lists noted, a child that came back placed, and the split stored again.
-use lists::ids as id_list;
 use melting::Placing;
+use melting::Tally;
 use melting::rows;
 use noting::actions;
-use rules::model::Ids;
 use rules::model::Reals;
 use sifting::Counts;
 use sifting::Kept;
@@ -15,10 +14,8 @@ ghost use mathlib.Core.List.{[]};
 ghost use mathlib.Core.Path.{_≡_};
 ghost use Prim.Native.Nat.{ℕ, _+_, _≤_, _<_};
 ghost use lib.ListN.{length, getD, set};
-ghost use Rattle.rules.specs.Repair.{entry};
 ghost use Rattle.columns.specs.Columns.{Slim};
-ghost use Rattle.sifting.specs.Walked.{Even};
-ghost use Rattle.melting.specs.Splits.{BadNoted, PlacesIn, ClosesIn, emptyHead, Stored};
+ghost use Rattle.melting.specs.Splits.{BadNoted, kidsIn, Lent, PlacesIn, ClosesIn, emptyHead, Stored};
 
 // The bad lists of a split: k as they were given, l as they were mended.
 pub fn split_noted(acts: &mut [[u64; 3]], n: usize, id: u64, k: Kids, l: Kids) -> usize
@@ -43,34 +40,37 @@ fn place_at(
     shares: &[[f64; 16]; 64],
     minima: &[[f64; 16]; 64],
     acts: &mut [[u64; 3]],
+    cs: &mut [u64; 16],
+    ss: &mut [f64; 16],
+    ms: &mut [f64; 16],
     c: Counts,
     mode: u64,
-    k: Kids,
+    t: Tally,
     share: f64,
     minimum: f64,
     id: u64,
 ) -> Placing
-    requires { ⌜ (length (now heads) ≡ 64) × (length (now ids) ≡ 64) × (length (now shares) ≡ 64) × (length (now minima) ≡ 64) × ((i : ℕ) → Slim (getD (now heads) i [])) × Even k × (c .acts < 1300) ⌝ }
-    ensures { λ r. ⌜ PlacesIn (now (heads .entry)) (now (ids .entry)) (now (shares .entry)) (now (minima .entry)) (now (acts .entry)) c mode k share minimum (Kept.At id) (now (heads .exit)) (now (acts .exit)) (r .counts) (r .kids) (r .wide) ⌝ }
+    requires { ⌜ (length (now heads) ≡ 64) × (length (now ids) ≡ 64) × (length (now shares) ≡ 64) × (length (now minima) ≡ 64) × ((i : ℕ) → Slim (getD (now heads) i [])) × Lent (kidsIn (now cs) (now ss) (now ms) (t .len) (t .moved)) × (c .acts < 1300) ⌝ }
+    ensures { λ r. ⌜ Lent (kidsIn (now (cs .exit)) (now (ss .exit)) (now (ms .exit)) (r .tally .len) (r .tally .moved)) × PlacesIn (now (heads .entry)) (now (ids .entry)) (now (shares .entry)) (now (minima .entry)) (now (acts .entry)) c mode (kidsIn (now (cs .entry)) (now (ss .entry)) (now (ms .entry)) (t .len) (t .moved)) share minimum (Kept.At id) (now (heads .exit)) (now (acts .exit)) (r .counts) (kidsIn (now (cs .exit)) (now (ss .exit)) (now (ms .exit)) (r .tally .len) (r .tally .moved)) (r .wide) ⌝ }
 {
     if 64 <= id {
-        return rows::place_one(k, c, id, share, minimum);
+        return rows::place_one(cs, ss, ms, t, c, id, share, minimum);
     }
     let i = id as usize;
     let h = heads[i];
     if !rows::is_meltable(h, mode, minimum) {
-        return rows::place_one(k, c, id, share, minimum);
+        return rows::place_one(cs, ss, ms, t, c, id, share, minimum);
     }
     let given = rows::load(heads, ids, shares, minima, i);
-    let p = rows::melt_kids(k, c, share, given);
+    let p = rows::melt_kids(cs, ss, ms, t, c, share, given);
     if p.wide {
         return p;
     }
     let n = actions::note(acts, c.acts, actions::COLLAPSED_SPLIT, id, 0);
     heads[i] = [0u64; 8];
-    let kids = p.kids;
+    let tally = p.tally;
     Placing {
-        kids,
+        tally,
         counts: Counts {
             seen: c.seen,
             acts: n,
@@ -86,15 +86,18 @@ pub fn place(
     shares: &[[f64; 16]; 64],
     minima: &[[f64; 16]; 64],
     acts: &mut [[u64; 3]],
+    cs: &mut [u64; 16],
+    ss: &mut [f64; 16],
+    ms: &mut [f64; 16],
     c: Counts,
     mode: u64,
-    k: Kids,
+    t: Tally,
     share: f64,
     minimum: f64,
     kept: Kept,
 ) -> Placing
-    requires { ⌜ (length (now heads) ≡ 64) × (length (now ids) ≡ 64) × (length (now shares) ≡ 64) × (length (now minima) ≡ 64) × ((i : ℕ) → Slim (getD (now heads) i [])) × Even k × (c .acts < 1300) × (kept ≡ Kept.Wide → ⊥) ⌝ }
-    ensures { λ r. ⌜ PlacesIn (now (heads .entry)) (now (ids .entry)) (now (shares .entry)) (now (minima .entry)) (now (acts .entry)) c mode k share minimum kept (now (heads .exit)) (now (acts .exit)) (r .counts) (r .kids) (r .wide) ⌝ }
+    requires { ⌜ (length (now heads) ≡ 64) × (length (now ids) ≡ 64) × (length (now shares) ≡ 64) × (length (now minima) ≡ 64) × ((i : ℕ) → Slim (getD (now heads) i [])) × Lent (kidsIn (now cs) (now ss) (now ms) (t .len) (t .moved)) × (c .acts < 1300) × (kept ≡ Kept.Wide → ⊥) ⌝ }
+    ensures { λ r. ⌜ Lent (kidsIn (now (cs .exit)) (now (ss .exit)) (now (ms .exit)) (r .tally .len) (r .tally .moved)) × PlacesIn (now (heads .entry)) (now (ids .entry)) (now (shares .entry)) (now (minima .entry)) (now (acts .entry)) c mode (kidsIn (now (cs .entry)) (now (ss .entry)) (now (ms .entry)) (t .len) (t .moved)) share minimum kept (now (heads .exit)) (now (acts .exit)) (r .counts) (kidsIn (now (cs .exit)) (now (ss .exit)) (now (ms .exit)) (r .tally .len) (r .tally .moved)) (r .wide) ⌝ }
 {
     match kept {
         Kept::At(id) => place_at(
@@ -103,23 +106,26 @@ pub fn place(
             shares,
             minima,
             acts,
+            cs,
+            ss,
+            ms,
             c,
             mode,
-            k,
+            t,
             share,
             minimum,
             id,
         ),
-        Kept::Gone => {
-            let kids = rows::with_moved(k);
-            Placing {
-                kids,
-                counts: c,
-                wide: false,
-            }
-        }
+        Kept::Gone => Placing {
+            tally: Tally {
+                len: t.len,
+                moved: true,
+            },
+            counts: c,
+            wide: false,
+        },
         Kept::Wide => Placing {
-            kids: k,
+            tally: t,
             counts: c,
             wide: true,
         },
@@ -143,25 +149,17 @@ fn store(
     minima: &mut [[f64; 16]; 64],
     id: u64,
     mode: u64,
-    cs: Ids,
+    cs: &[u64; 16],
+    n: usize,
     ss: Reals,
     ms: Reals,
 )
     requires { ⌜ (length (now heads) ≡ 64) × (length (now ids) ≡ 64) × (length (now shares) ≡ 64) × (length (now minima) ≡ 64) × (id < 64) ⌝ }
-    ensures { λ r. ⌜ Stored id mode (cs .at) (cs .len) (ss .at) (ss .len) (ms .at) (ms .len) (now (heads .entry)) (now (ids .entry)) (now (shares .entry)) (now (minima .entry)) (now (heads .exit)) (now (ids .exit)) (now (shares .exit)) (now (minima .exit)) ⌝ }
+    ensures { λ r. ⌜ Stored id mode (now (cs .entry)) n (ss .at) (ss .len) (ms .at) (ms .len) (now (heads .entry)) (now (ids .entry)) (now (shares .entry)) (now (minima .entry)) (now (heads .exit)) (now (ids .exit)) (now (shares .exit)) (now (minima .exit)) ⌝ }
 {
     let i = id as usize;
-    heads[i] = [
-        3,
-        mode,
-        0,
-        0,
-        cs.len as u64,
-        ss.len as u64,
-        ms.len as u64,
-        0,
-    ];
-    let xs = cs.at;
+    heads[i] = [3, mode, 0, 0, n as u64, ss.len as u64, ms.len as u64, 0];
+    let xs = *cs;
     ids[i] = xs;
     let ys = ss.at;
     shares[i] = ys;
@@ -176,35 +174,49 @@ fn keep_split(
     shares: &mut [[f64; 16]; 64],
     minima: &mut [[f64; 16]; 64],
     acts: &mut [[u64; 3]],
+    cs: &[u64; 16],
+    ss: &[f64; 16],
+    ms: &[f64; 16],
     c: Counts,
     id: u64,
     mode: u64,
     old: Reals,
-    k: Kids,
+    t: Tally,
 ) -> Walk
-    requires { ⌜ (length (now heads) ≡ 64) × (length (now ids) ≡ 64) × (length (now shares) ≡ 64) × (length (now minima) ≡ 64) × (id < 64) × Even k × (old .len ≤ 16) × (c .acts < 1300) × (1 < k .children .len) ⌝ }
-    ensures { λ r. ⌜ ClosesIn (now (heads .entry)) (now (ids .entry)) (now (shares .entry)) (now (minima .entry)) (now (acts .entry)) c id mode old k (now (heads .exit)) (now (ids .exit)) (now (shares .exit)) (now (minima .exit)) (now (acts .exit)) (r .counts) (r .kept) ⌝ }
+    requires { ⌜ (length (now heads) ≡ 64) × (length (now ids) ≡ 64) × (length (now shares) ≡ 64) × (length (now minima) ≡ 64) × (id < 64) × Lent (kidsIn (now cs) (now ss) (now ms) (t .len) (t .moved)) × (old .len ≤ 16) × (c .acts < 1300) × (1 < t .len) ⌝ }
+    ensures { λ r. ⌜ ClosesIn (now (heads .entry)) (now (ids .entry)) (now (shares .entry)) (now (minima .entry)) (now (acts .entry)) c id mode old (kidsIn (now (cs .entry)) (now (ss .entry)) (now (ms .entry)) (t .len) (t .moved)) (now (heads .exit)) (now (ids .exit)) (now (shares .exit)) (now (minima .exit)) (now (acts .exit)) (r .counts) (r .kept) ⌝ }
 {
-    let cs = k.children;
-    let given = k.shares;
-    let ss = util_shares::repaired_shares(cs.len, given);
-    let same = util_shares::eq_reals(ss, old);
-    let n = actions::note_if(
+    let n = t.len;
+    let given = Reals { at: *ss, len: n };
+    let repaired = util_shares::repaired_shares(n, given);
+    let same = util_shares::eq_reals(repaired, old);
+    let listed = actions::note_if(
         acts,
         c.acts,
-        k.moved | !same,
+        t.moved | !same,
         actions::REPAIRED_SHARES,
         id,
         0,
     );
-    let whole = k.minima;
-    let ms = constraints::compact_constraints(whole);
-    store(heads, ids, shares, minima, id, mode, cs, ss, ms);
+    let whole = Reals { at: *ms, len: n };
+    let compact = constraints::compact_constraints(whole);
+    store(
+        heads,
+        ids,
+        shares,
+        minima,
+        id,
+        mode,
+        cs,
+        n,
+        repaired,
+        compact,
+    );
     Walk {
         kept: Kept::At(id),
         counts: Counts {
             seen: c.seen,
-            acts: n,
+            acts: listed,
         },
     }
 }
@@ -216,17 +228,19 @@ pub fn split_done(
     shares: &mut [[f64; 16]; 64],
     minima: &mut [[f64; 16]; 64],
     acts: &mut [[u64; 3]],
+    cs: &[u64; 16],
+    ss: &[f64; 16],
+    ms: &[f64; 16],
     c: Counts,
     id: u64,
     mode: u64,
     old: Reals,
-    k: Kids,
+    t: Tally,
 ) -> Walk
-    requires { ⌜ (length (now heads) ≡ 64) × (length (now ids) ≡ 64) × (length (now shares) ≡ 64) × (length (now minima) ≡ 64) × (id < 64) × Even k × (old .len ≤ 16) × (c .acts < 1300) ⌝ }
-    ensures { λ r. ⌜ ClosesIn (now (heads .entry)) (now (ids .entry)) (now (shares .entry)) (now (minima .entry)) (now (acts .entry)) c id mode old k (now (heads .exit)) (now (ids .exit)) (now (shares .exit)) (now (minima .exit)) (now (acts .exit)) (r .counts) (r .kept) ⌝ }
+    requires { ⌜ (length (now heads) ≡ 64) × (length (now ids) ≡ 64) × (length (now shares) ≡ 64) × (length (now minima) ≡ 64) × (id < 64) × Lent (kidsIn (now cs) (now ss) (now ms) (t .len) (t .moved)) × (old .len ≤ 16) × (c .acts < 1300) ⌝ }
+    ensures { λ r. ⌜ ClosesIn (now (heads .entry)) (now (ids .entry)) (now (shares .entry)) (now (minima .entry)) (now (acts .entry)) c id mode old (kidsIn (now (cs .entry)) (now (ss .entry)) (now (ms .entry)) (t .len) (t .moved)) (now (heads .exit)) (now (ids .exit)) (now (shares .exit)) (now (minima .exit)) (now (acts .exit)) (r .counts) (r .kept) ⌝ }
 {
-    let cs = k.children;
-    if cs.len == 0 {
+    if t.len == 0 {
         let n = actions::note(acts, c.acts, actions::REMOVED_INVALID_NODE, id, 0);
         clear(heads, id);
         return Walk {
@@ -237,8 +251,8 @@ pub fn split_done(
             },
         };
     }
-    if cs.len == 1 {
-        let first = id_list::get(cs, 0, 0);
+    if t.len == 1 {
+        let first = cs[0];
         let n = actions::note(acts, c.acts, actions::COLLAPSED_SPLIT, id, 0);
         clear(heads, id);
         return Walk {
@@ -249,5 +263,19 @@ pub fn split_done(
             },
         };
     }
-    keep_split(heads, ids, shares, minima, acts, c, id, mode, old, k)
+    keep_split(
+        heads,
+        ids,
+        shares,
+        minima,
+        acts,
+        cs,
+        ss,
+        ms,
+        c,
+        id,
+        mode,
+        old,
+        t,
+    )
 }

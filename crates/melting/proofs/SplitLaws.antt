@@ -10,7 +10,7 @@ use native.Mathlib.Omega.{arith}
 use borrow.Author.Tests.{ne-eqb}
 use lib.Dec.{eqb}
 use lib.ListN.{length, getD, take, drop, set, length-set, length-map, length-append, drop-of-length-le}
-use lib.Seq.{drop-cons, length-take-le}
+use lib.Seq.{drop-cons, length-take-le, take-suc-set, getD-take}
 use lib.Ieee.{Float, eq}
 use Rattle.rules.specs.Numbers.{zero-f}
 use Rattle.rules.specs.Shares.{repairedShares, eqReals}
@@ -22,18 +22,17 @@ use Rattle.rules.specs.declared.model.Axis.{Axis}
 use Rattle.rules.specs.declared.model.RepairAction.{RepairAction}
 use Rattle.rules.specs.declared.model.RepairAction.the-variants.{RemovedInvalidNode, RepairedShares, RepairedConstraints, CollapsedSplit}
 use Rattle.rules.specs.declared.model.Reals.{Reals}
-use Rattle.lists.specs.Exact.{IsReals, Pushed}
+use Rattle.lists.specs.Exact.{IsReals}
 use Rattle.forest.specs.Lists.{free}
 use Rattle.forest.specs.Lengths.{repaired-length, aligned-length}
 use Rattle.sifting.specs.Work.{Cols, cols, Sized, Shows}
 use Rattle.columns.specs.Columns.{Slim, Noted, codeOf, axisFrom, nodeBy, nodeFrom, nodesFrom}
 use Rattle.sifting.specs.Walked.{Even, entriesOf, reserve, Placed}
-use Rattle.melting.specs.Splits.{Loaded, Mends, BadNoted, Long, Grown, mendedOf, Fits, emptyHead, Stored, Closed}
+use Rattle.melting.specs.Splits.{Loaded, Mends, BadNoted, Long, kidsIn, Lent, Grown, mendedOf, Fits, emptyHead, Stored, Closed}
 use Rattle.sifting.specs.declared.Kids.{Kids}
 use Rattle.sifting.specs.declared.Counts.{Counts}
 use Rattle.sifting.specs.declared.Kept.{Kept}
 use Rattle.sifting.specs.declared.Kept.the-variants.{At, Gone}
-use Rattle.melting.specs.declared.Placing.{Placing}
 use Rattle.columns.specs.ColumnLaws.{nodes-at, nodes-set, nodes-head, slim-set}
 
 -- ---- the entries of three lists
@@ -87,88 +86,89 @@ module _ (k : Kids) (v : Even k) (g : Long k) where
   even-at j x s m e h =
       zipped-at (ids (k .children)) (reals (k .shares)) (reals (k .minima)) j x s m e even-shares even-minima (omega (arith, even-children))
 
-  -- one child more
-  pub grown-one : (l : Kids) (x : ℕ) (s m : Float) → k .children .len < 16
-      → Pushed x (k .children .at) (k .children .len) (l .children .at) (l .children .len)
-      → Pushed s (k .shares .at) (k .shares .len) (l .shares .at) (l .shares .len)
-      → Pushed m (k .minima .at) (k .minima .len) (l .minima .at) (l .minima .len)
-      → Grown (entry (tile x) s m ∷ []) k l
-  grown-one l x s m h p q r =
-      record {
-        even = record {
-          shares = omega (arith, p .size, q .size, v .shares);
-          minima = omega (arith, p .size, r .size, v .minima);
-          few = omega (arith, p .size);
+  -- the same, read off the arrays
+  pub even-read : (j x : ℕ) (s m : Float) (e : Entry) → j < k .children .len
+      → getD (entriesOf k) j e ≡ entry (tile (getD (k .children .at) j x)) (getD (k .shares .at) j s) (getD (k .minima .at) j m)
+  even-read j x s m e h =
+      even-at j x s m e h
+      ∙ (λ i. entry (tile (getD-take (k .children .len) (k .children .at) j x h i))
+      (getD-take (k .shares .len) (k .shares .at) j s (omega (arith, v .shares)) i)
+      (getD-take (k .minima .len) (k .minima .at) j m (omega (arith, v .minima)) i))
+
+-- ---- one child more, in place
+
+-- the first n of an array, and one stored behind them
+stored-behind : {A : Type 0} (x : A) (at at′ : List A) (n : ℕ) → n < length at → at′ ≡ set at n x → take (n + 1) at′ ≡ take n at ++ x ∷ []
+stored-behind x at at′ n h e = (λ i. take (add-one n i) (e i)) ∙ take-suc-set at n x h
+
+stored-long : {A : Type 0} (x : A) (at at′ : List A) (n : ℕ) → length at ≡ 16 → at′ ≡ set at n x → length at′ ≡ 16
+stored-long x at at′ n g e = ap length e ∙ length-set at n x ∙ g
+
+pub grown-one : (cs : List ℕ) (ss ms : List Float) (n : ℕ) (b d : Bool) → Lent (kidsIn cs ss ms n b) → n < 16
+    → (x : ℕ) (s m : Float) (cs′ : List ℕ) (ss′ ms′ : List Float) → cs′ ≡ set cs n x → ss′ ≡ set ss n s → ms′ ≡ set ms n m
+    → Grown (entry (tile x) s m ∷ []) (kidsIn cs ss ms n b) (kidsIn cs′ ss′ ms′ (n + 1) d)
+grown-one cs ss ms n b d L h x s m cs′ ss′ ms′ p q r =
+    let k = kidsIn cs ss ms n b in
+    let g = L .long in
+    record {
+      lent = record {
+        even = record { shares = refl; minima = refl; few = omega arith };
+        long = record {
+          children = stored-long x cs cs′ n (g .children) p;
+          shares = stored-long s ss ss′ n (g .shares) q;
+          minima = stored-long m ms ms′ n (g .minima) r;
         };
-        list = (λ i. zipped (p .list i) (q .list i) (r .list i))
-            ∙ zipped-snoc (ids (k .children)) (reals (k .shares)) (reals (k .minima)) x s m even-shares even-minima;
-        count = p .size;
-      }
+      };
+      list = (λ i. zipped (stored-behind x cs cs′ n (omega (arith, g .children)) p i) (stored-behind s ss ss′ n (omega (arith, g .shares)) q i) (stored-behind m ms ms′ n (omega (arith, g .minima)) r i))
+          ∙ zipped-snoc (take n cs) (take n ss) (take n ms) x s m (even-shares k (L .even) g) (even-minima k (L .even) g);
+      count = refl;
+    }
 
 -- ---- a split melted in: j of its entries es are there, each share multiplied by `share`
 
 pub record Melting (k : Kids) (es : List Entry) (share : Float) (l : Kids) (j : ℕ) : Type 0 where
   pub within : j ≤ length es
-  pub even : Even l
-  pub count : l .children .len ≡ k .children .len + j
-  pub moved : l .moved ≡ true
+  pub lent : Lent l
   pub rest : entriesOf l ++ map (scaled share) (drop j es) ≡ entriesOf k ++ map (scaled share) es
 
 append-nil : (xs : List Entry) → xs ++ [] ≡ xs
 append-nil [] = refl
 append-nil (x ∷ xs) = ap (λ (l : List Entry). x ∷ l) (append-nil xs)
 
--- the lists of l are those of k
-pub record Alike (l k : Kids) : Type 0 where
-  pub children : l .children ≡ k .children
-  pub shares : l .shares ≡ k .shares
-  pub minima : l .minima ≡ k .minima
+-- the arrays as they were, and as they are with j of the children behind the first n
+module _ (cs₀ : List ℕ) (ss₀ ms₀ : List Float) (n : ℕ) (es : List Entry) (share : Float) where
+  abbrev pub Melted : List ℕ → List Float → List Float → ℕ → Type 0
+  Melted cs ss ms j = Melting (kidsIn cs₀ ss₀ ms₀ n true) es share (kidsIn cs ss ms (n + j) true) j
 
-module _ (k l : Kids) (a : Alike l k) where
-  pub alike-count : l .children .len ≡ k .children .len
-  alike-count = λ i. a .children i .len
+  pub melting-start : Lent (kidsIn cs₀ ss₀ ms₀ n true) → Melted cs₀ ss₀ ms₀ 0
+  melting-start L = subst (λ (i : ℕ). Melting (kidsIn cs₀ ss₀ ms₀ n true) es share (kidsIn cs₀ ss₀ ms₀ i true) 0) (omega arith) (record { within = omega arith; lent = L; rest = refl })
 
-  pub alike-even : Even k → Even l
-  alike-even v =
-      record {
-        shares = (λ i. a .shares i .len) ∙ v .shares ∙ sym alike-count;
-        minima = (λ i. a .minima i .len) ∙ v .minima ∙ sym alike-count;
-        few = subst (λ (x : ℕ). x ≤ 16) (sym alike-count) (v .few);
-      }
-
-  pub alike-entries : entriesOf l ≡ entriesOf k
-  alike-entries = λ i. zipped (ids (a .children i)) (reals (a .shares i)) (reals (a .minima i))
-
-module _ (k : Kids) (es : List Entry) (share : Float) where
-  pub melting-start : Even k → k .moved ≡ true → Melting k es share k 0
-  melting-start v b = record { within = omega arith; even = v; count = omega arith; moved = b; rest = refl }
-
-  pub melting-more : (l n : Kids) (j : ℕ) (e d : Entry) → Melting k es share l j → j < length es → getD es j d ≡ e
-      → Grown (scaled share e ∷ []) l n → n .moved ≡ l .moved → Melting k es share n (j + 1)
-  melting-more l n j e d M h at g b =
-      record {
+  pub melting-more : (cs : List ℕ) (ss ms : List Float) (j : ℕ) (e d : Entry) (cs′ : List ℕ) (ss′ ms′ : List Float) → Melted cs ss ms j → j < length es → getD es j d ≡ e
+      → Grown (scaled share e ∷ []) (kidsIn cs ss ms (n + j) true) (kidsIn cs′ ss′ ms′ (n + j + 1) true) → Melted cs′ ss′ ms′ (j + 1)
+  melting-more cs ss ms j e d cs′ ss′ ms′ M h at g =
+      let l = kidsIn cs ss ms (n + j) true in
+      subst (λ (i : ℕ). Melting (kidsIn cs₀ ss₀ ms₀ n true) es share (kidsIn cs′ ss′ ms′ i true) (j + 1)) (omega arith)
+      (record {
         within = omega arith;
-        even = g .even;
-        count = omega (arith, g .count, M .count);
-        moved = b ∙ M .moved;
+        lent = g .lent;
         rest = (λ i. g .list i ++ map (scaled share) (drop (add-one j i) es))
             ∙ append-assoc (entriesOf l) (scaled share e ∷ []) (map (scaled share) (drop (suc j) es))
             ∙ sym (ap (λ (t : List Entry). entriesOf l ++ map (scaled share) t) (drop-cons es j d h ∙ (λ i. at i ∷ drop (suc j) es)))
             ∙ M .rest;
-      }
+      })
 
-  pub melting-done : (given l : Kids) (j : ℕ) → Alike k given → Melting k es share l j → length es ≤ j → Grown (map (scaled share) es) given l × (l .moved ≡ true)
-  melting-done given l j a M h = (
-    record {
-      even = M .even;
-      list = sym (append-nil (entriesOf l))
-          ∙ sym (ap (λ (t : List Entry). entriesOf l ++ map (scaled share) t) (drop-of-length-le es h))
-          ∙ M .rest
-          ∙ ap (λ (t : List Entry). t ++ map (scaled share) es) (alike-entries given k a);
-      count = omega (arith, M .count, M .within, alike-count given k a, length-map es (scaled share));
-    },
-    M .moved,
-  )
+  pub melting-done : (cs : List ℕ) (ss ms : List Float) (j m : ℕ) → Melted cs ss ms j → length es ≡ m → m ≤ j
+      → Grown (map (scaled share) es) (kidsIn cs₀ ss₀ ms₀ n true) (kidsIn cs ss ms (n + m) true)
+  melting-done cs ss ms j m M z h =
+      let l = kidsIn cs ss ms (n + j) true in
+      subst (λ (i : ℕ). Grown (map (scaled share) es) (kidsIn cs₀ ss₀ ms₀ n true) (kidsIn cs ss ms (n + i) true)) (omega (arith, M .within))
+      (record {
+        lent = M .lent;
+        list = sym (append-nil (entriesOf l))
+            ∙ sym (ap (λ (t : List Entry). entriesOf l ++ map (scaled share) t) (drop-of-length-le es {i = j} (omega arith)))
+            ∙ M .rest;
+        count = omega (arith, M .within, length-map es (scaled share));
+      })
 
 -- ---- axes, and what can be melted in
 
@@ -245,39 +245,47 @@ mends-count k l m =
 never : {A : Type 0} → true ≡ false → A
 never e = absurd (let z : _≡_ {A = ℕ} 0 1 = cc in omega arith)
 
-abbrev pub placing : Kids → Counts → Bool → Placing
-placing k c b = record { kids = k; counts = c; wide = b }
-
-module _ (es : List Entry) (b : Bool) (k : Kids) (c : Counts) (v : Even k) where
-  pub fits-over : Long k → 16 < k .children .len + length es → Fits es b k c (placing k c true)
-  fits-over g h =
+module _ (es : List Entry) (b : Bool) (k : Kids) (c : Counts) where
+  pub fits-over : Lent k → 16 < k .children .len + length es → Fits es b k k c c true
+  fits-over L h =
       record {
-        even = v;
+        lent = L;
         counts = refl;
         list = λ e. never e;
         moved = λ e. never e;
-        over = λ e. omega (arith, length-append (entriesOf k) es, even-count k v g);
+        still = λ e. refl;
+        over = λ e. omega (arith, length-append (entriesOf k) es, even-count k (L .even) (L .long));
       }
 
-  pub fits-grown : (l : Kids) → Grown es k l → l .moved ≡ b → Fits es b k c (placing l c false)
+  pub fits-grown : (l : Kids) → Grown es k l → l .moved ≡ b → Fits es b k l c c false
   fits-grown l g m =
       record {
-        even = g .even;
+        lent = g .lent;
         counts = refl;
         list = λ e. g .list;
         moved = λ e. m;
+        still = λ e. never (sym e);
         over = λ e. never (sym e);
       }
 
-pub melt-over : (k given sub : Kids) (c : Counts) (share : Float) → Even k → Long k → Mends given sub → 16 < k .children .len + sub .children .len
-    → Fits (map (scaled share) (mendedOf given)) true k c (placing k c true)
-melt-over k given sub c share v g m h =
-    fits-over (map (scaled share) (mendedOf given)) true k c v g (omega (arith, length-map (mendedOf given) (scaled share), mends-count given sub m))
+-- a split melted in: the flag goes up
+module _ (cs : List ℕ) (ss ms : List Float) (n : ℕ) (flag : Bool) (given sub : Kids) (c : Counts) (share : Float) (L : Lent (kidsIn cs ss ms n flag)) (m : Mends given sub) where
+  pub melt-over : 16 < n + sub .children .len → Fits (map (scaled share) (mendedOf given)) true (kidsIn cs ss ms n flag) (kidsIn cs ss ms n flag) c c true
+  melt-over h =
+      fits-over (map (scaled share) (mendedOf given)) true (kidsIn cs ss ms n flag) c L (omega (arith, length-map (mendedOf given) (scaled share), mends-count given sub m))
 
-pub melt-fits : (k given sub l : Kids) (c : Counts) (share : Float) → Even k → Mends given sub → Grown (map (scaled share) (entriesOf sub)) k l → l .moved ≡ true
-    → Fits (map (scaled share) (mendedOf given)) true k c (placing l c false)
-melt-fits k given sub l c share v m g b =
-    fits-grown (map (scaled share) (mendedOf given)) true k c v l (subst (λ (es : List Entry). Grown (map (scaled share) es) k l) (mends-entries given sub m) g) b
+  pub melt-fits : (cs′ : List ℕ) (ss′ ms′ : List Float) → Grown (map (scaled share) (entriesOf sub)) (kidsIn cs ss ms n true) (kidsIn cs′ ss′ ms′ (n + sub .children .len) true)
+      → Fits (map (scaled share) (mendedOf given)) true (kidsIn cs ss ms n flag) (kidsIn cs′ ss′ ms′ (n + sub .children .len) true) c c false
+  melt-fits cs′ ss′ ms′ g =
+      let l = kidsIn cs′ ss′ ms′ (n + sub .children .len) true in
+      let e = mends-entries given sub m in
+      fits-grown (map (scaled share) (mendedOf given)) true (kidsIn cs ss ms n flag) c l
+      (record {
+        lent = g .lent;
+        list = g .list ∙ ap (λ (es : List Entry). zipped (take n cs) (take n ss) (take n ms) ++ map (scaled share) es) e;
+        count = g .count ∙ ap (λ (es : List Entry). n + length (map (scaled share) es)) e;
+      })
+      refl
 
 -- ---- bad lists noted
 
@@ -372,19 +380,29 @@ pub melts-past : (mode : ℕ) (v : Float) (hs xs : List (List ℕ)) (ss ms : Lis
     → melts (axisFrom mode) v (nodeFrom (getD hs i []) (getD xs i []) (getD ss i []) (getD ms i [])) ≡ false
 melts-past mode v hs xs ss ms i h = sym (melts-kind mode v (getD hs i []) (getD xs i []) (getD ss i []) (getD ms i []) (omega (arith, gone-head hs i h)))
 
-module _ (C : Cols) (Z : Sized C) (mode : ℕ) (e : Entry) (k : Kids) where
-  pub placed-gone : (l : Kids) → Even k → Alike l k → l .moved ≡ true → Placed C C mode e Gone k l false
-  placed-gone l v a m =
-      record {
-        sized = Z;
-        flags = refl;
-        seen = refl;
-        listing = omega arith;
-        even = alike-even k l a v;
-        right = λ f w S. (sym (alike-entries k l a), sym m, S);
-        over = λ f. never (sym f);
-      }
+-- the flag may change
+pub lent-moved : (cs : List ℕ) (ss ms : List Float) (n : ℕ) (b : Bool) → Lent (kidsIn cs ss ms n b) → Lent (kidsIn cs ss ms n true)
+lent-moved cs ss ms n b L =
+    record {
+      even = record { shares = refl; minima = refl; few = L .even .few };
+      long = record { children = L .long .children; shares = L .long .shares; minima = L .long .minima };
+    }
 
+-- a child that is gone: only the flag changes
+pub placed-gone : (C : Cols) → Sized C → (mode : ℕ) (e : Entry) (cs : List ℕ) (ss ms : List Float) (n : ℕ) (b : Bool) → Lent (kidsIn cs ss ms n b)
+    → Placed C C mode e Gone (kidsIn cs ss ms n b) (kidsIn cs ss ms n true) false
+placed-gone C Z mode e cs ss ms n b L =
+    record {
+      sized = Z;
+      flags = refl;
+      seen = refl;
+      listing = omega arith;
+      even = lent-moved cs ss ms n b L .even;
+      right = λ f w S. (refl, refl, S);
+      over = λ f. never (sym f);
+    }
+
+module _ (C : Cols) (Z : Sized C) (mode : ℕ) (e : Entry) (k : Kids) where
   module _ (share minimum : Float) (ps : e .share ≡ share) (pm : e .minimum ≡ minimum) (id : ℕ) where
     -- the rule's answer, by whether the child is melted in
     module _ (w : Work) (S : Shows C w) where
@@ -394,16 +412,16 @@ module _ (C : Cols) (Z : Sized C) (mode : ℕ) (e : Entry) (k : Kids) where
       rule-is : (b : Bool) → melts (axisFrom mode) minimum (rowNode C Z id) ≡ b → place (axisFrom mode) e (some (tile id)) (run (entriesOf k) (k .moved) w) w ≡ placedBy b
       rule-is b y = ap placedBy ((λ i. melts (axisFrom mode) (pm i) (node-is C Z w S id i)) ∙ y)
 
-    pub placed-one : (r : Placing) → Fits (entry (tile id) share minimum ∷ []) (k .moved) k (C .counts) r → melts (axisFrom mode) minimum (rowNode C Z id) ≡ false
-        → Placed C (recount C (r .counts)) mode e (At id) k (r .kids) (r .wide)
-    placed-one r F cannot =
-        subst (λ (d : Counts). Placed C (recount C d) mode e (At id) k (r .kids) (r .wide)) (sym (F .counts))
+    pub placed-one : (l : Kids) (d : Counts) (wide : Bool) → Fits (entry (tile id) share minimum ∷ []) (k .moved) k l (C .counts) d wide → melts (axisFrom mode) minimum (rowNode C Z id) ≡ false
+        → Placed C (recount C d) mode e (At id) k l wide
+    placed-one l d wide F cannot =
+        subst (λ (n : Counts). Placed C (recount C n) mode e (At id) k l wide) (sym (F .counts))
         (record {
           sized = Z;
           flags = refl;
           seen = refl;
           listing = omega arith;
-          even = F .even;
+          even = F .lent .even;
           right = λ f w S.
               let q = rule-is w S false cannot in (
                 ap (λ (t : Run). t .list) q ∙ (λ i. entriesOf k ++ entry (tile id) (ps i) (pm i) ∷ []) ∙ sym (F .list f),
@@ -416,7 +434,7 @@ module _ (C : Cols) (Z : Sized C) (mode : ℕ) (e : Entry) (k : Kids) where
         })
 
     module _ (given : Kids) (L : Loaded (getD (C .heads) id []) (getD (C .ids) id []) (getD (C .shares) id []) (getD (C .minima) id []) given)
-        (r : Placing) (F : Fits (map (scaled share) (mendedOf given)) true k (C .counts) r) (can : melts (axisFrom mode) minimum (rowNode C Z id) ≡ true) where
+        (l : Kids) (d : Counts) (wide : Bool) (F : Fits (map (scaled share) (mendedOf given)) true k l (C .counts) d wide) (can : melts (axisFrom mode) minimum (rowNode C Z id) ≡ true) where
       melted-is : (w : Work) → Shows C w → entriesOf k ++ melted (e .share) (getD (w .state .nodes) id empty) ≡ entriesOf k ++ map (scaled share) (mendedOf given)
       melted-is w S =
           let h = getD (C .heads) id [] in
@@ -427,31 +445,31 @@ module _ (C : Cols) (Z : Sized C) (mode : ℕ) (e : Entry) (k : Kids) where
           node-is C Z w S id ∙ only-split (axisFrom mode) minimum (getD h 0 0) h xs ss ms can in
           (λ i. entriesOf k ++ melted (ps i) (n i)) ∙ (λ i. entriesOf k ++ map (scaled share) (loaded-entries h xs ss ms given L i))
 
-      pub placed-over : r .wide ≡ true → Placed C (recount C (r .counts)) mode e (At id) k (r .kids) (r .wide)
+      pub placed-over : wide ≡ true → Placed C (recount C d) mode e (At id) k l wide
       placed-over t =
-          subst (λ (d : Counts). Placed C (recount C d) mode e (At id) k (r .kids) (r .wide)) (sym (F .counts))
+          subst (λ (n : Counts). Placed C (recount C n) mode e (At id) k l wide) (sym (F .counts))
           (record {
             sized = Z;
             flags = refl;
             seen = refl;
             listing = omega arith;
-            even = F .even;
+            even = F .lent .even;
             right = λ f. never (sym t ∙ f);
             over = λ f w S.
                 subst (λ (u : Run). 16 < length (u .list)) (sym (rule-is w S true can))
                 (subst (λ (l : List Entry). 16 < length l) (sym (melted-is w S)) (F .over f));
           })
 
-      pub placed-melted : r .wide ≡ false → C .counts .acts + 1 + 19 * free (C .claimed) ≤ 1216 → (acts : List (List ℕ)) (n : ℕ)
+      pub placed-melted : wide ≡ false → C .counts .acts + 1 + 19 * free (C .claimed) ≤ 1216 → (acts : List (List ℕ)) (n : ℕ)
           → Noted true (CollapsedSplit (tile id)) (C .acts) (C .counts .acts) acts n
-          → Placed C (emptied C id acts n) mode e (At id) k (r .kids) false
+          → Placed C (emptied C id acts n) mode e (At id) k l false
       placed-melted t room acts n N =
           record {
             sized = emptied-sized C Z id acts n (N .most) room;
             flags = refl;
             seen = refl;
             listing = N .most;
-            even = F .even;
+            even = F .lent .even;
             right = λ f w S.
                 let q = rule-is w S true can in (
                   ap (λ (u : Run). u .list) q ∙ melted-is w S ∙ sym (F .list t),

@@ -18,7 +18,6 @@ use Rattle.sifting.specs.declared.Counts.{Counts}
 use Rattle.sifting.specs.declared.Kept.{Kept}
 use Rattle.sifting.specs.declared.Kept.the-variants.{Wide}
 use Rattle.sifting.specs.declared.Kids.{Kids}
-use Rattle.melting.specs.declared.Placing.{Placing}
 
 -- a split's lists, as its slot's head h and rows have them
 pub record Loaded (h xs : List ℕ) (ss ms : List Float) (k : Kids) : Type 0 where
@@ -59,9 +58,19 @@ pub record Long (k : Kids) : Type 0 where
   pub shares : length (k .shares .at) ≡ 16
   pub minima : length (k .minima .at) ≡ 16
 
+-- three arrays of which n places are in use, read as a split's lists
+abbrev pub kidsIn : List ℕ → List Float → List Float → ℕ → Bool → Kids
+kidsIn cs ss ms n moved =
+    record { children = record { at = cs; len = n }; shares = record { at = ss; len = n }; minima = record { at = ms; len = n }; moved = moved }
+
+-- what is known of the children that stand in lent arrays
+pub record Lent (k : Kids) : Type 0 where
+  pub even : Even k
+  pub long : Long k
+
 -- the children es were put behind those of k
 pub record Grown (es : List Entry) (k l : Kids) : Type 0 where
-  pub even : Even l
+  pub lent : Lent l
   pub list : entriesOf l ≡ entriesOf k ++ es
   pub count : l .children .len ≡ k .children .len + length es
 
@@ -71,13 +80,14 @@ mendedOf k =
     let cs = map tile (ids (k .children)) in
     entries cs (repairedShares (length cs) (reals (k .shares))) (alignedConstraints (length cs) (reals (k .minima)))
 
--- the children es behind those of k, if they are not too many
-pub record Fits (es : List Entry) (flag : Bool) (k : Kids) (c : Counts) (r : Placing) : Type 0 where
-  pub even : Even (r .kids)
-  pub counts : r .counts ≡ c
-  pub list : r .wide ≡ false → entriesOf (r .kids) ≡ entriesOf k ++ es
-  pub moved : r .wide ≡ false → r .kids .moved ≡ flag
-  pub over : r .wide ≡ true → 16 < length (entriesOf k ++ es)
+-- the children es behind those of k, if they are not too many; else all is as it was
+pub record Fits (es : List Entry) (flag : Bool) (k l : Kids) (c d : Counts) (wide : Bool) : Type 0 where
+  pub lent : Lent l
+  pub counts : d ≡ c
+  pub list : wide ≡ false → entriesOf l ≡ entriesOf k ++ es
+  pub moved : wide ≡ false → l .moved ≡ flag
+  pub still : wide ≡ true → l ≡ k
+  pub over : wide ≡ true → 16 < length (entriesOf k ++ es)
 
 -- one child placed, whatever is claimed and seen, where there is room for the action that it may add
 abbrev pub PlacesIn : List (List ℕ) → List (List ℕ) → List (List Float) → List (List Float) → List (List ℕ) → Counts → ℕ → Kids → Float → Float → Kept → List (List ℕ) → List (List ℕ) → Counts → Kids → Bool → Type 0

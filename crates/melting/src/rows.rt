@@ -1,7 +1,6 @@
-// A split's lists, by value: loaded from its slot, mended, and the children that are kept placed one by one or melted in.
+// A split's lists: loaded from its slot and mended, by value; the children that are kept placed one by one or melted in, in three lent arrays.
 use crate::Placing;
-use lists::ids as id_list;
-use real_lists::reals;
+use crate::Tally;
 use rules::model::Ids;
 use rules::model::Reals;
 use sifting::Counts;
@@ -12,13 +11,13 @@ ghost use mathlib.Core.Path.{_≡_};
 ghost use mathlib.Core.Bool.{Bool};
 ghost use mathlib.Core.List.{List, [], _∷_, map};
 ghost use Prim.Native.Nat.{ℕ, _+_, _≤_, _<_};
-ghost use lib.ListN.{length, getD};
+ghost use lib.ListN.{length, getD, set};
 ghost use lib.Ieee.{Float};
 ghost use Rattle.rules.specs.Repair.{entry, melts, scaled};
 ghost use Rattle.rules.specs.Tree.{tile, sameAxis};
 ghost use Rattle.columns.specs.Columns.{Slim, axisFrom, nodeFrom};
 ghost use Rattle.sifting.specs.Walked.{Even, entriesOf};
-ghost use Rattle.melting.specs.Splits.{Loaded, Mends, Grown, mendedOf, Fits};
+ghost use Rattle.melting.specs.Splits.{Loaded, Mends, kidsIn, Lent, Grown, mendedOf, Fits};
 
 // The lists that stand in a slot.
 pub fn load(
@@ -74,60 +73,48 @@ pub fn mended(k: Kids) -> Kids
     }
 }
 
-// `children.push`, `shares.push` and `constraints.push`.
-fn push3(k: Kids, child: u64, share: f64, minimum: f64) -> Kids
-    requires { ⌜ Even k × (k .children .len < 16) ⌝ }
-    ensures { λ r. ⌜ Grown (entry (tile child) share minimum ∷ []) k r × (r .moved ≡ k .moved) ⌝ }
+// `children.push`, `shares.push` and `constraints.push`, in place, behind the n that are there.
+fn push3(
+    cs: &mut [u64; 16],
+    ss: &mut [f64; 16],
+    ms: &mut [f64; 16],
+    n: usize,
+    child: u64,
+    share: f64,
+    minimum: f64,
+)
+    requires { ⌜ (length (now cs) ≡ 16) × (length (now ss) ≡ 16) × (length (now ms) ≡ 16) × (n < 16) ⌝ }
+    ensures { λ r. ⌜ (now (cs .exit) ≡ set (now (cs .entry)) n child) × (now (ss .exit) ≡ set (now (ss .entry)) n share) × (now (ms .exit) ≡ set (now (ms .entry)) n minimum) ⌝ }
 {
-    let cs = k.children;
-    let ss = k.shares;
-    let ms = k.minima;
-    let children = id_list::push(cs, child);
-    let shares = reals::push(ss, share);
-    let minima = reals::push(ms, minimum);
-    Kids {
-        children,
-        shares,
-        minima,
-        moved: k.moved,
-    }
+    cs[n] = child;
+    ss[n] = share;
+    ms[n] = minimum;
 }
 
-// The children as they are, with the flag up.
-pub fn with_moved(k: Kids) -> Kids
-    ensures { λ r. ⌜ (r .children ≡ k .children) × (r .shares ≡ k .shares) × (r .minima ≡ k .minima) × (r .moved ≡ Bool.true) ⌝ }
+// The children of a split that is melted in, each share multiplied by its own, behind the n that are there.
+fn melt_all(
+    cs: &mut [u64; 16],
+    ss: &mut [f64; 16],
+    ms: &mut [f64; 16],
+    n: usize,
+    share: f64,
+    sub: Kids,
+)
+    requires { ⌜ Lent (kidsIn (now cs) (now ss) (now ms) n Bool.true) × Even sub × (n + sub .children .len ≤ 16) ⌝ }
+    ensures { λ r. ⌜ Grown (map (scaled share) (entriesOf sub)) (kidsIn (now (cs .entry)) (now (ss .entry)) (now (ms .entry)) n Bool.true) (kidsIn (now (cs .exit)) (now (ss .exit)) (now (ms .exit)) (n + sub .children .len) Bool.true) ⌝ }
 {
-    let children = k.children;
-    let shares = k.shares;
-    let minima = k.minima;
-    Kids {
-        children,
-        shares,
-        minima,
-        moved: true,
-    }
-}
-
-// The children of a split that is melted in, each share multiplied by its own.
-fn melt_all(k: Kids, share: f64, sub: Kids) -> Kids
-    requires { ⌜ Even k × Even sub × (k .children .len + sub .children .len ≤ 16) ⌝ }
-    ensures { λ r. ⌜ Grown (map (scaled share) (entriesOf sub)) k r × (r .moved ≡ Bool.true) ⌝ }
-{
-    let cs = sub.children;
-    let ss = sub.shares;
-    let ms = sub.minima;
-    let n = cs.len;
-    let mut l = with_moved(k);
+    let children = sub.children;
+    let shares = sub.shares;
+    let minima = sub.minima;
+    let m = children.len;
     let mut j = 0usize;
-    while j < n {
-        let child = id_list::get(cs, j, 0);
-        let own = reals::get(ss, j, 0.0);
-        let minimum = reals::get(ms, j, 0.0);
-        let next = push3(l, child, share * own, minimum);
-        l = next;
+    while j < m {
+        let child = children.at[j];
+        let own = shares.at[j];
+        let minimum = minima.at[j];
+        push3(cs, ss, ms, n + j, child, share * own, minimum);
         j += 1;
     }
-    l
 }
 
 // Whether two modes are the same axis: 0 is horizontal, any other vertical.
@@ -154,44 +141,67 @@ pub fn is_meltable(h: [u64; 8], mode: u64, minimum: f64) -> bool
 }
 
 // The split that is melted in, if its children are not too many.
-pub fn melt_kids(k: Kids, c: Counts, share: f64, given: Kids) -> Placing
-    requires { ⌜ Even k × (given .children .len ≤ 16) × (given .shares .len ≤ 16) × (given .minima .len ≤ 16) ⌝ }
-    ensures { λ r. ⌜ Fits (map (scaled share) (mendedOf given)) Bool.true k c r ⌝ }
+pub fn melt_kids(
+    cs: &mut [u64; 16],
+    ss: &mut [f64; 16],
+    ms: &mut [f64; 16],
+    t: Tally,
+    c: Counts,
+    share: f64,
+    given: Kids,
+) -> Placing
+    requires { ⌜ Lent (kidsIn (now cs) (now ss) (now ms) (t .len) (t .moved)) × (given .children .len ≤ 16) × (given .shares .len ≤ 16) × (given .minima .len ≤ 16) ⌝ }
+    ensures { λ r. ⌜ Fits (map (scaled share) (mendedOf given)) Bool.true (kidsIn (now (cs .entry)) (now (ss .entry)) (now (ms .entry)) (t .len) (t .moved)) (kidsIn (now (cs .exit)) (now (ss .exit)) (now (ms .exit)) (r .tally .len) (r .tally .moved)) c (r .counts) (r .wide) ⌝ }
 {
     let sub = mended(given);
-    let n = k.children.len;
+    let n = t.len;
     let m = sub.children.len;
     if 16 < n + m {
         return Placing {
-            kids: k,
+            tally: t,
             counts: c,
             wide: true,
         };
     }
-    let kids = melt_all(k, share, sub);
+    melt_all(cs, ss, ms, n, share, sub);
     Placing {
-        kids,
+        tally: Tally {
+            len: n + m,
+            moved: true,
+        },
         counts: c,
         wide: false,
     }
 }
 
 // A child as it is, if there is room.
-pub fn place_one(k: Kids, c: Counts, id: u64, share: f64, minimum: f64) -> Placing
-    requires { ⌜ Even k ⌝ }
-    ensures { λ r. ⌜ Fits (entry (tile id) share minimum ∷ []) (k .moved) k c r ⌝ }
+pub fn place_one(
+    cs: &mut [u64; 16],
+    ss: &mut [f64; 16],
+    ms: &mut [f64; 16],
+    t: Tally,
+    c: Counts,
+    id: u64,
+    share: f64,
+    minimum: f64,
+) -> Placing
+    requires { ⌜ Lent (kidsIn (now cs) (now ss) (now ms) (t .len) (t .moved)) ⌝ }
+    ensures { λ r. ⌜ Fits (entry (tile id) share minimum ∷ []) (t .moved) (kidsIn (now (cs .entry)) (now (ss .entry)) (now (ms .entry)) (t .len) (t .moved)) (kidsIn (now (cs .exit)) (now (ss .exit)) (now (ms .exit)) (r .tally .len) (r .tally .moved)) c (r .counts) (r .wide) ⌝ }
 {
-    let n = k.children.len;
+    let n = t.len;
     if 16 <= n {
         return Placing {
-            kids: k,
+            tally: t,
             counts: c,
             wide: true,
         };
     }
-    let kids = push3(k, id, share, minimum);
+    push3(cs, ss, ms, n, id, share, minimum);
     Placing {
-        kids,
+        tally: Tally {
+            len: n + 1,
+            moved: t.moved,
+        },
         counts: c,
         wide: false,
     }

@@ -8,9 +8,9 @@ use native.Mathlib.Numerals.{add-one}
 use native.Mathlib.Omega.{arith}
 use native.Mathlib.Nat.{not-suc-le-zero, le-of-suc-le-suc}
 use borrow.Author.Tests.{le-leb, lt-leb}
-use lib.ListN.{length, take, drop, getD, set, length-set, length-map, drop-of-length-le}
+use lib.ListN.{length, take, drop, getD, set, length-set, length-map, length-take, drop-of-length-le}
 use lib.Seq.{drop-cons}
-use lib.Ieee.{Float}
+use lib.Ieee.{Float, nan}
 use Rattle.rules.specs.Numbers.{zero-f}
 use Rattle.rules.specs.Shares.{repairedShares}
 use Rattle.rules.specs.Minima.{alignedConstraints}
@@ -19,6 +19,7 @@ use Rattle.rules.specs.Repair.{State, Work, Out, gone, claim, Entry, entry, ent
 use Rattle.rules.specs.declared.model.TileId.{TileId}
 use Rattle.rules.specs.declared.model.Axis.{Axis}
 use Rattle.rules.specs.declared.model.Reals.{Reals}
+use Rattle.lists.specs.Places.{getD-used}
 use Rattle.forest.specs.Lists.{All, never, free, free-set, all-getD}
 use Rattle.forest.specs.Codec.{Least, start-least}
 use Rattle.forest.specs.Grow.{Good, tile-keeps, claimed}
@@ -28,7 +29,7 @@ use Rattle.sifting.specs.Work.{Cols, cols, Sized, Shows}
 use Rattle.columns.specs.Columns.{nodeFrom, axisFrom}
 use Rattle.sifting.specs.Walked.{keptAs, reserve, Answers, Walked, Even, entriesOf, Placed}
 use Rattle.sifting.specs.Steps.{Dropped}
-use Rattle.melting.specs.Splits.{Loaded, Mends, BadNoted, Closed}
+use Rattle.melting.specs.Splits.{Loaded, Mends, BadNoted, kidsIn, Closed}
 use Rattle.normalize.specs.Opens.{Opens, isWide}
 use Rattle.sifting.specs.declared.Counts.{Counts}
 use Rattle.sifting.specs.declared.Kept.{Kept}
@@ -266,16 +267,18 @@ module _ (rows : Kids) (E : Even rows) (long : length (ids (rows .children)) ≡
     less : free (C₀ .claimed) ≡ suc (free (D .claimed))
     less = free-set (C₀ .claimed) id (omega (arith, S₀ .flags)) open-yet ∙ ap (λ (fs : List Bool). suc (free fs)) (sym (O .flags))
 
-    pub going-start : (k : Kids) → Even k → entriesOf k ≡ [] → k .moved ≡ false → Going rows C₀ D id mode given D k 0
-    going-start k even none′ still =
+    -- no child is kept yet, whatever stands in the arrays
+    pub going-start : (cs : List ℕ) (ss ms : List Float) → Going rows C₀ D id mode given D (kidsIn cs ss ms 0 false) 0
+    unfolding entries
+    going-start cs ss ms =
         record {
           within = omega arith;
           sized = O .sized;
-          even = even;
+          even = record { shares = refl; minima = refl; few = omega arith };
           fewer = omega arith;
           panes = omega arith;
           listing = omega arith;
-          right = λ w W f h. let (u, e, U, q) = O .right w W in (run [] false u, sym none′, sym still, U, before-start (claim (tile id) w .state) a false u e, q f);
+          right = λ w W f h. let (u, e, U, q) = O .right w W in (run [] false u, refl, refl, U, before-start (claim (tile id) w .state) a false u e, q f);
         }
 
     claim-good : (w : Work) → Shows C₀ w → Good (claim (tile id) w .state)
@@ -440,8 +443,23 @@ module _ {rows : Kids} {C₀ D : Cols} {id mode : ℕ} {given : Reals} (X : Ctx 
   less-free : free (C₀ .claimed) ≡ suc (free (D .claimed))
   less-free = less rows (X .opens .even) (X .long) (X .long-shares) (X .long-minima) C₀ D id mode given (X .sized) (X .inside) (X .open-yet) (X .opens)
 
-  pub start : (k : Kids) → Even k → entriesOf k ≡ [] → k .moved ≡ false → Going rows C₀ D id mode given D k 0
+  pub start : (cs : List ℕ) (ss ms : List Float) → Going rows C₀ D id mode given D (kidsIn cs ss ms 0 false) 0
   start = going-start rows (X .opens .even) (X .long) (X .long-shares) (X .long-minima) C₀ D id mode given (X .sized) (X .inside) (X .open-yet) (X .opens)
+
+  -- the entries of a split's lists, read off its arrays
+  module _ (j : ℕ) (lt : j < rows .children .len) where
+    pub child-read : getD (rows .children .at) j 0 ≡ getD (ids (rows .children)) j 0
+    child-read = getD-used (rows .children .len) (rows .children .at) j 0 0 lt (omega (arith, X .long, length-take (rows .children .len) (rows .children .at)))
+
+    pub share-read : getD (reals (rows .shares)) j zero-f ≡ getD (rows .shares .at) j nan
+    share-read =
+        sym (getD-used (rows .shares .len) (rows .shares .at) j zero-f nan (omega (arith, X .opens .even .shares))
+        (omega (arith, X .opens .even .shares, X .long-shares, length-take (rows .shares .len) (rows .shares .at))))
+
+    pub minimum-read : getD (reals (rows .minima)) j zero-f ≡ getD (rows .minima .at) j nan
+    minimum-read =
+        sym (getD-used (rows .minima .len) (rows .minima .at) j zero-f nan (omega (arith, X .opens .even .minima))
+        (omega (arith, X .opens .even .minima, X .long-minima, length-take (rows .minima .len) (rows .minima .at))))
 
   module _ {C : Cols} {k : Kids} {j : ℕ} (G : Going rows C₀ D id mode given C k j) where
     -- the measure falls, and there is room for what a child may list

@@ -1,9 +1,8 @@
 // normalize_node and normalize_split: a tile's repair calls a split's repair, which calls back. Slots that are not claimed grow fewer.
 use crate::Opened;
 use keeping::splits;
-use lists::ids as id_list;
+use melting::Tally;
 use melting::rows;
-use real_lists::reals;
 use sifting::Counts;
 use sifting::Kept;
 use sifting::Kids;
@@ -18,7 +17,7 @@ ghost use Rattle.forest.specs.Lists.{free};
 ghost use Rattle.rules.specs.Tree as Tree;
 ghost use Rattle.sifting.specs.Work.{cols, Sized};
 ghost use Rattle.columns.specs.Columns.{Slim};
-ghost use Rattle.sifting.specs.Walked.{Walked, Even, entriesOf};
+ghost use Rattle.sifting.specs.Walked.{Walked, Even};
 ghost use Rattle.normalize.specs.Opens.{OpensIn, isWide};
 
 // Whether a step answered that a list is too wide.
@@ -29,21 +28,6 @@ fn is_wide(k: Kept) -> bool
         Kept::At(_) => false,
         Kept::Gone => false,
         Kept::Wide => true,
-    }
-}
-
-// No child kept yet.
-fn none() -> Kids
-    ensures { λ r. ⌜ (entriesOf r ≡ []) × (r .moved ≡ Bool.false) × Even r ⌝ }
-{
-    let children = id_list::empty();
-    let shares = reals::empty();
-    let minima = reals::empty();
-    Kids {
-        children,
-        shares,
-        minima,
-        moved: false,
     }
 }
 
@@ -146,10 +130,17 @@ fn normalize_split(
     let least = rows.minima;
     let n = children.len;
     let mut counts = o.counts;
-    let mut kids = none();
+    // the children that are kept, in place: the places past the tally's number are not read
+    let mut cs = [0u64; 16];
+    let mut ss = [0.0f64; 16];
+    let mut ms = [0.0f64; 16];
+    let mut tally = Tally {
+        len: 0,
+        moved: false,
+    };
     let mut j = 0usize;
     while j < n {
-        let child = id_list::get(children, j, 0);
+        let child = children.at[j];
         let w = normalize_node(
             heads,
             ids,
@@ -169,17 +160,20 @@ fn normalize_split(
                 counts: after,
             };
         }
-        let share = reals::get(olds, j, 0.0);
-        let minimum = reals::get(least, j, 0.0);
+        let share = olds.at[j];
+        let minimum = least.at[j];
         let p = splits::place(
             heads,
             ids,
             shares,
             minima,
             acts,
+            &mut cs,
+            &mut ss,
+            &mut ms,
             after,
             mode,
-            kids,
+            tally,
             share,
             minimum,
             kept,
@@ -191,8 +185,8 @@ fn normalize_split(
                 counts: placed,
             };
         }
-        let more = p.kids;
-        kids = more;
+        let more = p.tally;
+        tally = more;
         counts = placed;
         j += 1;
     }
@@ -203,10 +197,13 @@ fn normalize_split(
         shares,
         minima,
         acts,
+        &cs,
+        &ss,
+        &ms,
         counts,
         id,
         mode,
         given,
-        kids,
+        tally,
     )
 }

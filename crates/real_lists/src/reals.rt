@@ -128,7 +128,7 @@ pub fn first(l: Reals, n: usize) -> Reals
     let mut at = [0.0f64; 16];
     let mut j = 0usize;
     while j < n {
-        let y = get(l, j, 0.0);
+        let y = l.at[j];
         at[j] = y;
         j += 1;
     }

@@ -27,7 +27,10 @@ pub fn aligned_constraints(count: usize, minima: Reals) -> Reals
     let mut at = [0.0f64; 16];
     let mut j = 0usize;
     while j < count {
-        let minimum = reals::get(minima, j, 0.0);
+        let mut minimum = 0.0f64;
+        if j < minima.len {
+            minimum = minima.at[j];
+        }
         at[j] = fix_minimum(minimum);
         j += 1;
     }
@@ -41,7 +44,8 @@ fn kept(minima: Reals) -> usize
 {
     let mut n = minima.len;
     while 0 < n {
-        let last = reals::get(minima, n - 1, 0.0);
+        let end = n - 1;
+        let last = minima.at[end];
         if last != 0.0 {
             return n;
         }

@@ -36,7 +36,7 @@ fn mend(shares: Reals) -> Mended
     let mut valid = false;
     let mut j = 0usize;
     while j < n {
-        let share = reals::get(shares, j, 0.0);
+        let share = shares.at[j];
         valid = valid | number::share_ok(share);
         at[j] = fix_share(share);
         j += 1;
@@ -79,8 +79,8 @@ pub fn eq_reals(a: Reals, b: Reals) -> bool
     }
     let mut i = 0usize;
     while i < n {
-        let x = reals::get(a, i, 0.0);
-        let y = reals::get(b, i, 0.0);
+        let x = a.at[i];
+        let y = b.at[i];
         if x != y {
             return false;
         }

@@ -3,7 +3,7 @@ use Prim.Native.Nat.{_*_}
 use borrow.Author.Needs.{needs}
 use Rattle.forest.specs.Lists.{free}
 use Rattle.sifting.specs.Work.{cols}
-use Rattle.melting.proofs.SplitLaws.{placed-kept, room-kept, placed-gone}
+use Rattle.melting.proofs.SplitLaws.{placed-kept, room-kept, lent-moved, placed-gone}
 use Rattle.keeping.proofs.splits.place.Statement.{statement}
 use Rattle.keeping.proofs.splits.place.Tie as tie
 
@@ -16,9 +16,6 @@ place-at-requires c κs = search needs
 enum-told : tie.Need-enum-told
 enum-told c = search needs
 
-with-moved-requires : tie.Need-with-moved-requires
-with-moved-requires c κs = search needs
-
 enum-told-2 : tie.Need-enum-told-2
 enum-told-2 c = search needs
 
@@ -28,25 +25,25 @@ same-length c = search needs
 returns : tie.Need-returns
 returns c =
     let p = c .before in
-    let f = p .before .before .before in
+    let f = p .before .before .before .before .before .before in
     let a = f .before .before .before .args in
     let q = f .before .kept .given .1 in
-    λ cs seen e ps pm Z room. placed-kept q (p .place-at .ensures cs seen e ps pm Z (room-kept (a .c .acts) (19 * free cs) q room))
+    let E = p .place-at .ensures in
+    (E .0, λ cs seen e ps pm Z room. placed-kept q (E .1 cs seen e ps pm Z (room-kept (a .c .acts) (19 * free cs) q room)))
 
 returns-2 : tie.Need-returns-2
 returns-2 c =
-    let f = c .before in
-    let o = f .before .before in
+    let o = c .before .before in
     let a = o .args in
-    let m = c .with-moved .ensures in
-    λ cs seen e ps pm Z room.
-    placed-kept (f .enum-told .given .1)
-    (placed-gone (cols (a .heads .now) (a .ids .now) (a .shares .now) (a .minima .now) cs seen (a .acts .now) (a .c)) Z (a .mode) e (a .k) (c .with-moved .result) (o .pre .5)
-    (record { children = m .0; shares = m .1; minima = m .2 }) (m .3))
+    let L = o .pre .5 in (
+      lent-moved (a .cs .now) (a .ss .now) (a .ms .now) (a .t .len) (a .t .moved) L,
+      λ cs seen e ps pm Z room.
+          placed-kept (c .enum-told .given .1)
+          (placed-gone (cols (a .heads .now) (a .ids .now) (a .shares .now) (a .minima .now) cs seen (a .acts .now) (a .c)) Z (a .mode) e (a .cs .now) (a .ss .now) (a .ms .now) (a .t .len) (a .t .moved) L),
+    )
 
 returns-3 : tie.Need-returns-3
-returns-3 c =
-    absurd (c .before .before .pre .7 (c .enum-told2 .given .1))
+returns-3 c = absurd (c .before .before .pre .7 (c .enum-told2 .given .1))
 
 pub place-spec : {M : Type 1} → statement M
 place-spec =
@@ -55,7 +52,6 @@ place-spec =
     enum-known-kept
     place-at-requires
     enum-told
-    with-moved-requires
     enum-told-2
     same-length
     returns

@@ -1,90 +1,98 @@
 -- `melting::rows::melt_all` pushes each child of the split that is melted in. Assumes nothing.
-use mathlib.Core.Path.{sym, _∙_}
-use Prim.Native.Nat.{_-_}
+use mathlib.Core.Bool.{true}
+use Prim.Native.Nat.{_+_, _-_}
 use native.Mathlib.Omega.{arith}
 use borrow.Author.Needs.{needs}
-use lib.Ieee.{ofBits}
+use lib.Ieee.{nan}
 use Rattle.rules.specs.Numbers.{zero-f}
 use Rattle.rules.specs.Tree.{tile, ids, reals}
 use Rattle.rules.specs.Repair.{Entry, entry}
 use Rattle.sifting.specs.Walked.{entriesOf}
 use Rattle.melting.specs.Splits.{Long}
-use Rattle.melting.proofs.SplitLaws.{zipped, Melting, melting-start, melting-more, melting-done, Alike, alike-count, alike-even, even-count, even-at}
+use Rattle.melting.proofs.SplitLaws.{zipped, Melted, melting-start, melting-more, melting-done, grown-one, even-count, even-read}
 use Rattle.melting.proofs.rows.melt_all.Statement.{statement}
 use Rattle.melting.proofs.rows.melt_all.Tie as tie
 
 abbrev Inv-loop : tie.InvT-loop
-Inv-loop share cs ss ms n l₀ j₀ l j = Melting l₀ (zipped (ids cs) (reals ss) (reals ms)) share l j
+Inv-loop cs₀ ss₀ ms₀ n share children shares minima m j₀ cs ss ms j = Melted cs₀ ss₀ ms₀ n (zipped (ids children) (reals shares) (reals minima)) share cs ss ms j
 
 abbrev μ-loop : tie.MeasureT-loop
-μ-loop share cs ss ms n l₀ j₀ l j = n - j
+μ-loop cs₀ ss₀ ms₀ n share children shares minima m j₀ cs ss ms j = m - j
 
 -- the arrays have 16 places
 long : (c : tie.Start Inv-loop μ-loop) → Long (c .args .sub)
 long c = search needs
 
--- what with_moved gives has the lists that it was given
-alike : (c : tie.After-with-moved Inv-loop μ-loop) → Alike (c .with-moved .result) (c .before .before .before .before .args .k)
-alike c = record { children = c .with-moved .ensures .0; shares = c .with-moved .ensures .1; minima = c .with-moved .ensures .2 }
-
 none : Entry
 none = entry (tile 0) zero-f zero-f
 
-with-moved-requires : tie.Need-with-moved-requires Inv-loop μ-loop
-with-moved-requires c κs = search needs
-
 loop-holds : tie.Need-loop-holds Inv-loop μ-loop
 loop-holds c =
-    let o = c .before .before .before .before in
-    let l = c .with-moved .result in
-    melting-start l (entriesOf (o .args .sub)) (o .args .share) (alike-even (o .args .k) l (alike c) (o .pre .0)) (c .with-moved .ensures .3)
+    let o = c .before .before .before in
+    let a = o .args in
+    melting-start (a .cs .now) (a .ss .now) (a .ms .now) (a .n) (entriesOf (a .sub)) (a .share) (o .pre .0)
 
-get-requires : tie.Need-get-requires Inv-loop μ-loop
-get-requires c κs = search needs
+mul-child : tie.Need-mul-child Inv-loop μ-loop
+mul-child c = omega (arith, c .loop-test .taken, c .before .before .before .before .before .pre .2)
 
-get-requires-2 : tie.Need-get-requires-2 Inv-loop μ-loop
-get-requires-2 c κs = search needs
+element-copy-out-child : tie.Need-element-copy-out-child Inv-loop μ-loop
+element-copy-out-child c = omega (arith, c .loop-test .taken, c .before .before .before .before .before .pre .2)
 
-get-requires-3 : tie.Need-get-requires-3 Inv-loop μ-loop
-get-requires-3 c κs = search needs
+mul-own : tie.Need-mul-own Inv-loop μ-loop
+mul-own c = omega (arith, c .before .loop-test .taken, c .before .before .before .before .before .before .pre .2)
+
+element-copy-out-own : tie.Need-element-copy-out-own Inv-loop μ-loop
+element-copy-out-own c = omega (arith, c .before .loop-test .taken, c .before .before .before .before .before .before .pre .2)
+
+mul-minimum : tie.Need-mul-minimum Inv-loop μ-loop
+mul-minimum c = omega (arith, c .before .before .loop-test .taken, c .before .before .before .before .before .before .before .pre .2)
+
+element-copy-out-minimum : tie.Need-element-copy-out-minimum Inv-loop μ-loop
+element-copy-out-minimum c = omega (arith, c .before .before .loop-test .taken, c .before .before .before .before .before .before .before .pre .2)
+
+add-push3 : tie.Need-add-push3 Inv-loop μ-loop
+add-push3 c =
+    let i = c .before .before .before .before .before .before in
+    omega (arith, i .loop-test .taken, i .before .before .before .before .before .pre .2)
 
 push3-requires : tie.Need-push3-requires Inv-loop μ-loop
 push3-requires c κs =
-    let q = c .before .before .before .before in
-    let w = q .before in
-    let o = w .before .before .before .before in
-    let M = q .loop .inv in
-    (M .even, omega (arith, M .count, alike-count (o .args .k) (w .with-moved .result) (alike w), c .before .before .before .loop-test .taken, o .pre .2))
+    let i = c .before .before .before .before .before .before in
+    let g = i .before .loop .inv .lent .long in
+    (g .children, g .shares, g .minima, omega (arith, i .loop-test .taken, i .before .before .before .before .before .pre .2))
 
 add-j : tie.Need-add-j Inv-loop μ-loop
-add-j c = omega arith
+add-j c =
+    let i = c .before .before .before .before .before .before .before in
+    omega (arith, i .loop-test .taken, i .before .before .before .before .before .pre .2)
 
 loop-less : tie.Need-loop-less Inv-loop μ-loop
 loop-less c = omega arith
 
 loop-again : tie.Need-loop-again Inv-loop μ-loop
-unfolding ofBits
 loop-again c =
-    let q = c .before .before .before .before .before in
-    let o = q .before .before .before .before .before in
-    let b = o .args .sub in
+    let i = c .before .before .before .before .before .before .before in
+    let q = i .before in
+    let o = q .before .before .before .before in
+    let a = o .args in
+    let b = a .sub in
     let g = long o in
-    let h = c .before .before .before .before .loop-test .taken in
-    let j = q .loop .j in
-    melting-more (q .before .with-moved .result) (entriesOf b) (o .args .share) (q .loop .l) (c .push3 .result) j _ none (q .loop .inv)
+    let h = i .loop-test .taken in
+    let l = q .loop in
+    let p = c .push3 in
+    let s = p .last in
+    melting-more (a .cs .now) (a .ss .now) (a .ms .now) (a .n) (entriesOf b) (a .share) (l .cs) (l .ss) (l .ms) (l .j) _ none (s .0) (s .1 .0) (s .1 .1 .0) (l .inv)
     (omega (arith, even-count b (o .pre .1) g, h))
-    (even-at b (o .pre .1) g j 0 zero-f zero-f none h ∙ sym (λ i. entry (tile (c .before .before .before .get .ensures i)) (c .before .before .get2 .ensures i) (c .before .get3 .ensures i)))
-    (c .push3 .ensures .0) (c .push3 .ensures .1)
+    (even-read b (o .pre .1) g (l .j) 0 nan nan none h)
+    (grown-one (l .cs) (l .ss) (l .ms) (a .n + l .j) true true (l .inv .lent) (omega (arith, h, o .pre .2)) _ _ _ (s .0) (s .1 .0) (s .1 .1 .0) (p .ensures .0) (p .ensures .1) (p .ensures .2))
 
 returns : tie.Need-returns Inv-loop μ-loop
 returns c =
     let q = c .before in
-    let w = q .before in
-    let o = w .before .before .before .before in
-    let b = o .args .sub in
-    let g = long o in
-    melting-done (w .with-moved .result) (entriesOf b) (o .args .share) (o .args .k) (q .loop .l) (q .loop .j) (alike w) (q .loop .inv)
-    (omega (arith, even-count b (o .pre .1) g, c .loop-test .left))
+    let o = q .before .before .before .before in
+    let a = o .args in
+    let l = q .loop in
+    melting-done (a .cs .now) (a .ss .now) (a .ms .now) (a .n) (entriesOf (a .sub)) (a .share) (l .cs) (l .ss) (l .ms) (l .j) (a .sub .children .len) (l .inv) (even-count (a .sub) (o .pre .1) (long o)) (c .loop-test .left)
 
 pub melt-all-spec : {M : Type 1} → statement M
 melt-all-spec =
@@ -92,11 +100,14 @@ melt-all-spec =
     (tie.spec
     Inv-loop
     μ-loop
-    with-moved-requires
     loop-holds
-    get-requires
-    get-requires-2
-    get-requires-3
+    mul-child
+    element-copy-out-child
+    mul-own
+    element-copy-out-own
+    mul-minimum
+    element-copy-out-minimum
+    add-push3
     push3-requires
     add-j
     loop-less

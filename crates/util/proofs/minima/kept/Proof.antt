@@ -1,15 +1,15 @@
 -- `util::minima::kept` passes zeros from the end. Assumes nothing.
 use mathlib.Core.Path.{_≡_, sym, ap, _∙_}
 use mathlib.Core.Bool.{true, false}
-use Prim.Native.Nat.{_≤_, _-_}
+use Prim.Native.Nat.{_≤_, _<_, _-_}
 use native.Mathlib.Omega.{arith}
 use borrow.Author.Needs.{needs}
 use borrow.Author.Tests.{not-true, not-false}
 use lib.ListN.{length, getD}
-use lib.Ieee.{Float, ofBits, eq, ne}
+use lib.Ieee.{Float, ofBits, nan, eq, ne}
 use Rattle.rules.specs.Numbers.{zero-f}
 use Rattle.rules.specs.Tree.{reals}
-use Rattle.lists.specs.Places.{used-length}
+use Rattle.lists.specs.Places.{used-length, getD-used}
 use Rattle.util.specs.Entries.{Cutting, cutting-start, cutting-more, cutting-kept, cutting-none}
 use Rattle.util.proofs.minima.kept.Statement.{statement}
 use Rattle.util.proofs.minima.kept.Tie as tie
@@ -22,23 +22,29 @@ abbrev μ-loop : tie.MeasureT-loop
 
 loop-holds : tie.Need-loop-holds Inv-loop μ-loop
 loop-holds c =
-    let m = c .args .minima in
+    let m = c .args .t1 in
     let s : length (m .at) ≡ 16 = search needs in
     let h : m .len ≤ length (m .at) = omega arith in
     (omega arith, cutting-start (reals m) (m .len) (sym (used-length (m .len) (m .at) h)))
 
-sub-get : tie.Need-sub-get Inv-loop μ-loop
-sub-get c = omega arith
+sub-end : tie.Need-sub-end Inv-loop μ-loop
+sub-end c = omega arith
 
-get-requires : tie.Need-get-requires Inv-loop μ-loop
-get-requires c κs = search needs
+mul-last : tie.Need-mul-last Inv-loop μ-loop
+mul-last c = omega arith
+
+element-copy-out-last : tie.Need-element-copy-out-last Inv-loop μ-loop
+element-copy-out-last c = omega arith
 
 returns : tie.Need-returns Inv-loop μ-loop
 unfolding ofBits ne
 returns c =
-    let m = c .before .before .before .before .args .minima in
+    let m = c .before .before .before .before .args .t1 in
     let l = c .before .before .before .loop in
-    let e : eq (getD (reals m) (l .n - 1) zero-f) zero-f ≡ false = sym (ap (λ (x : Float). eq x zero-f) (c .before .get .ensures)) ∙ not-true _ (c .if1 .taken) in
+    let s : length (m .at) ≡ 16 = search needs in
+    let h : l .n - 1 < m .len = omega (arith, c .before .before .loop-test .taken) in
+    let x : getD (m .at) (l .n - 1) nan ≡ getD (reals m) (l .n - 1) zero-f = getD-used (m .len) (m .at) (l .n - 1) zero-f nan h (omega arith) in
+    let e : eq (getD (reals m) (l .n - 1) zero-f) zero-f ≡ false = sym (ap (λ (x : Float). eq x zero-f) x) ∙ not-true _ (c .if1 .taken) in
     (l .inv .0, cutting-kept (reals m) (l .n) (c .before .before .loop-test .taken) e (l .inv .1))
 
 sub-n : tie.Need-sub-n Inv-loop μ-loop
@@ -50,15 +56,18 @@ loop-less c = omega arith
 loop-again : tie.Need-loop-again Inv-loop μ-loop
 unfolding ofBits ne
 loop-again c =
-    let m = c .before .before .before .before .args .minima in
+    let m = c .before .before .before .before .args .t1 in
     let l = c .before .before .before .loop in
-    let e : eq (getD (reals m) (l .n - 1) zero-f) zero-f ≡ true = sym (ap (λ (x : Float). eq x zero-f) (c .before .get .ensures)) ∙ not-false _ (c .if1 .left) in
+    let s : length (m .at) ≡ 16 = search needs in
+    let h : l .n - 1 < m .len = omega (arith, c .before .before .loop-test .taken) in
+    let x : getD (m .at) (l .n - 1) nan ≡ getD (reals m) (l .n - 1) zero-f = getD-used (m .len) (m .at) (l .n - 1) zero-f nan h (omega arith) in
+    let e : eq (getD (reals m) (l .n - 1) zero-f) zero-f ≡ true = sym (ap (λ (x : Float). eq x zero-f) x) ∙ not-false _ (c .if1 .left) in
     (omega arith, cutting-more (reals m) (l .n) (c .before .before .loop-test .taken) e (l .inv .1))
 
 returns-2 : tie.Need-returns-2 Inv-loop μ-loop
 returns-2 c =
     let l = c .before .loop in
-    (l .inv .0, cutting-none (reals (c .before .before .args .minima)) (l .n) (c .loop-test .left) (l .inv .1))
+    (l .inv .0, cutting-none (reals (c .before .before .args .t1)) (l .n) (c .loop-test .left) (l .inv .1))
 
 pub kept-spec : {M : Type 1} → statement M
 kept-spec =
@@ -67,8 +76,9 @@ kept-spec =
     Inv-loop
     μ-loop
     loop-holds
-    sub-get
-    get-requires
+    sub-end
+    mul-last
+    element-copy-out-last
     returns
     sub-n
     loop-less

@@ -5,13 +5,13 @@ use mathlib.Core.List.{map}
 use Prim.Native.Nat.{_≤_, _<_, _+_, _-_}
 use native.Mathlib.Omega.{arith}
 use borrow.Author.Needs.{needs}
-use lib.ListN.{length, length-map}
-use lib.Ieee.{ofBits}
+use lib.ListN.{length, getD, length-map}
+use lib.Ieee.{ofBits, nan}
 use Rattle.rules.specs.Numbers.{zero-f, shareOk}
 use Rattle.rules.specs.Tree.{reals}
 use Rattle.rules.specs.Shares.{fixShare}
 use Rattle.lists.specs.Exact.{padTo}
-use Rattle.lists.specs.Places.{used-length, getD-map}
+use Rattle.lists.specs.Places.{used-length, getD-used, getD-map}
 use Rattle.lists.specs.Build.{Building, building-start, building-more, building-done}
 use Rattle.lists.specs.Tests.{Flagged, flagged-more, flagged-all}
 use Rattle.util.proofs.shares.mend.Statement.{statement}
@@ -26,14 +26,17 @@ abbrev μ-loop : tie.MeasureT-loop
 loop-holds : tie.Need-loop-holds Inv-loop μ-loop
 unfolding padTo ofBits
 loop-holds c =
-    let l = c .args .shares in
+    let l = c .args .t1 in
     let s : length (l .at) ≡ 16 = search needs in
     let h : l .len ≤ length (l .at) = omega arith in
     let u = used-length (l .len) (l .at) h in
     (building-start zero-f (map fixShare (reals l)) _ (l .len) (sym (length-map (reals l) fixShare ∙ u)) (omega arith) refl, refl)
 
-get-requires : tie.Need-get-requires Inv-loop μ-loop
-get-requires c κs = search needs
+mul-share : tie.Need-mul-share Inv-loop μ-loop
+mul-share c = omega arith
+
+element-copy-out-share : tie.Need-element-copy-out-share Inv-loop μ-loop
+element-copy-out-share c = omega arith
 
 share-ok-requires : tie.Need-share-ok-requires Inv-loop μ-loop
 share-ok-requires c κs = search needs
@@ -54,12 +57,12 @@ loop-less : tie.Need-loop-less Inv-loop μ-loop
 loop-less c = omega arith
 
 loop-again : tie.Need-loop-again Inv-loop μ-loop
-unfolding ofBits
 loop-again c =
-    let l = c .before .before .before .before .before .args .shares in
+    let l = c .before .before .before .before .before .args .t1 in
     let k = c .before .before .before .before .loop in
     let h = c .before .before .before .loop-test .taken in
-    let x = c .before .before .get .ensures in
+    let s : length (l .at) ≡ 16 = search needs in
+    let x : getD (l .at) (k .j) nan ≡ getD (reals l) (k .j) zero-f = getD-used (l .len) (l .at) (k .j) zero-f nan h (omega arith) in
     let u : length (map fixShare (reals l)) ≡ length (reals l) = length-map (reals l) fixShare in
     let i : k .j < length (reals l) = omega (arith, u, k .inv .0 .size) in (
       building-more zero-f (map fixShare (reals l)) (k .at) (l .len) (k .j) (c .fix-share .result) (k .inv .0) h
@@ -70,7 +73,7 @@ loop-again c =
 
 returns : tie.Need-returns Inv-loop μ-loop
 returns c =
-    let l = c .before .before .args .shares in
+    let l = c .before .before .args .t1 in
     let k = c .before .loop in
     let u : length (map fixShare (reals l)) ≡ length (reals l) = length-map (reals l) fixShare in
     (building-done zero-f (map fixShare (reals l)) (k .at) (l .len) (k .j) (k .inv .0) (c .loop-test .left), flagged-all shareOk (reals l) (k .j) (k .valid) (omega (arith, u, k .inv .0 .size)) (k .inv .1))
@@ -82,7 +85,8 @@ mend-spec =
     Inv-loop
     μ-loop
     loop-holds
-    get-requires
+    mul-share
+    element-copy-out-share
     share-ok-requires
     fix-share-requires
     mul-at
