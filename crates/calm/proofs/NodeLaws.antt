@@ -20,7 +20,7 @@ use Rattle.rules.specs.declared.model.TileId.{TileId}
 use Rattle.rules.specs.declared.model.Axis.{Axis}
 use Rattle.forest.specs.Lists.{free, free-set}
 use Rattle.forest.specs.Still.{noneLost}
-use Rattle.forest.specs.Mended.{aligned-length}
+use Rattle.forest.specs.Lengths.{aligned-length}
 use Rattle.normalize.proofs.WalkLaws.{entries-at, entries-long}
 use Rattle.calm.specs.Calm.{Look, look, taking, calmPanes, seeing, calmGroup, unmelted, calmKids, calmSplit, calmNode, calmTile, calm, calmEnd}
 use Rattle.calm.specs.Reads.{sighted, looked, Sights, Groups, Reads, Rows, listsCalm}
