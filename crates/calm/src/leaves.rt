@@ -5,7 +5,7 @@ ghost use mathlib.Core.Path.{_≡_};
 ghost use mathlib.Core.Bool.{false};
 ghost use mathlib.Core.List.{_∷_, []};
 ghost use Prim.Native.Nat.{_+_, _≤_, _<_};
-ghost use lib.ListN.{take, getD};
+ghost use lib.ListN.{length, take, getD};
 ghost use Rattle.calm.specs.Reads.{Sights, Groups};
 
 // The end of the walk: repair would note something.
@@ -28,9 +28,9 @@ pub fn calm_pane(seen: &mut [u64; 1024], n: usize, pane: u64) -> Calm
 }
 
 // A group's panes, each at its first sight.
-pub fn calm_panes(seen: &mut [u64; 1024], n: usize, row: [u64; 16], count: usize) -> Calm
-    requires { ⌜ (count ≤ 16) × (n + 16 ≤ 1024) ⌝ }
-    ensures { λ r. ⌜ Sights (take count row) (now (seen .entry)) n (now (seen .exit)) r ⌝ }
+pub fn calm_panes(seen: &mut [u64; 1024], n: usize, row: &[u64; 16], count: usize) -> Calm
+    requires { ⌜ (count ≤ 16) × (n + 16 ≤ 1024) × (length (now row) ≡ 16) ⌝ }
+    ensures { λ r. ⌜ Sights (take count (now (row .entry))) (now (seen .entry)) n (now (seen .exit)) r ⌝ }
 {
     let mut m = n;
     let mut j = 0usize;
@@ -46,9 +46,9 @@ pub fn calm_panes(seen: &mut [u64; 1024], n: usize, row: [u64; 16], count: usize
 }
 
 // A group whose head and panes these are: its active index is in range, and each pane is new.
-pub fn calm_group(seen: &mut [u64; 1024], n: usize, h: [u64; 8], row: [u64; 16]) -> Calm
-    requires { ⌜ (getD h 4 0 ≤ 16) × (n + 16 ≤ 1024) ⌝ }
-    ensures { λ r. ⌜ Groups h row (now (seen .entry)) n (now (seen .exit)) r ⌝ }
+pub fn calm_group(seen: &mut [u64; 1024], n: usize, h: [u64; 8], row: &[u64; 16]) -> Calm
+    requires { ⌜ (getD h 4 0 ≤ 16) × (n + 16 ≤ 1024) × (length (now row) ≡ 16) ⌝ }
+    ensures { λ r. ⌜ Groups h (now (row .entry)) (now (seen .entry)) n (now (seen .exit)) r ⌝ }
 {
     if h[4] <= h[3] {
         return stopped(n);

@@ -63,8 +63,8 @@ pub fn calm_node(
         return leaves::calm_pane(seen, n, h[2]);
     }
     if kind == 2 {
-        let row = ids[i];
-        return leaves::calm_group(seen, n, h, row);
+        lists::measured(ids, shares, minima, i);
+        return leaves::calm_group(seen, n, h, &ids[i]);
     }
     calm_split(heads, ids, shares, minima, claimed, seen, n, id, depth - 1)
 }

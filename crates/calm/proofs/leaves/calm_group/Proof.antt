@@ -1,7 +1,5 @@
 -- `calm::leaves::calm_group` is `calmGroup`, whatever is claimed. Assumes nothing.
-use mathlib.Core.Path.{_≡_}
 use borrow.Author.Needs.{needs}
-use lib.ListN.{length}
 use Rattle.calm.proofs.Laws.{group-no, group-yes}
 use Rattle.calm.proofs.leaves.calm_group.Statement.{statement}
 use Rattle.calm.proofs.leaves.calm_group.Tie as tie
@@ -20,7 +18,7 @@ returns c =
     let i = c .before in
     let b = i .before in
     let a = b .args in
-    group-no (a .t3) (a .row) (a .seen .now) (a .n) (i .if1 .taken) (c .stopped .result) (c .stopped .ensures .0) (c .stopped .ensures .1)
+    group-no (a .t3) (a .row .now) (a .seen .now) (a .n) (i .if1 .taken) (c .stopped .result) (c .stopped .ensures .0) (c .stopped .ensures .1)
 
 array-read-calm-panes : tie.Need-array-read-calm-panes
 array-read-calm-panes c = search needs
@@ -33,8 +31,7 @@ returns-2 c =
     let i = c .before .before in
     let b = i .before in
     let a = b .args in
-    let l : length (a .row) ≡ 16 = search (needs, b .good) in
-    group-yes (a .t3) (a .row) (a .seen .now) (a .n) (i .if1 .left) (b .pre .0) l _ (c .calm-panes .result) (c .calm-panes .ensures)
+    group-yes (a .t3) (a .row .now) (a .seen .now) (a .n) (i .if1 .left) (b .pre .0) (b .pre .2) _ (c .calm-panes .result) (c .calm-panes .ensures)
 
 pub calm-group-spec : {M : Type 1} → statement M
 calm-group-spec =

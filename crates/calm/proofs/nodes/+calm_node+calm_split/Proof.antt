@@ -57,6 +57,8 @@ calm-node-stopped-requires : (t : ℕ) → calm-node-lts.Need-stopped-requires (
   stopped-reads.Learnt,
   calm-pane-reads.Asked,
   calm-pane-reads.Learnt,
+  measured-reads.Asked,
+  measured-reads.Learnt,
   calm-group-reads.Asked,
   calm-group-reads.Learnt,
   calm-split-below t,
@@ -69,6 +71,8 @@ calm-node-returns : (t : ℕ) → calm-node-lts.Need-returns (
   stopped-reads.Learnt,
   calm-pane-reads.Asked,
   calm-pane-reads.Learnt,
+  measured-reads.Asked,
+  measured-reads.Learnt,
   calm-group-reads.Asked,
   calm-group-reads.Learnt,
   calm-split-below t,
@@ -86,6 +90,8 @@ calm-node-stopped-requires-2 : (t : ℕ) → calm-node-lts.Need-stopped-requires
   stopped-reads.Learnt,
   calm-pane-reads.Asked,
   calm-pane-reads.Learnt,
+  measured-reads.Asked,
+  measured-reads.Learnt,
   calm-group-reads.Asked,
   calm-group-reads.Learnt,
   calm-split-below t,
@@ -98,6 +104,8 @@ calm-node-returns-2 : (t : ℕ) → calm-node-lts.Need-returns-2 (
   stopped-reads.Learnt,
   calm-pane-reads.Asked,
   calm-pane-reads.Learnt,
+  measured-reads.Asked,
+  measured-reads.Learnt,
   calm-group-reads.Asked,
   calm-group-reads.Learnt,
   calm-split-below t,
@@ -115,6 +123,8 @@ calm-node-element-copy-out-if3 : (t : ℕ) → calm-node-lts.Need-element-copy-o
   stopped-reads.Learnt,
   calm-pane-reads.Asked,
   calm-pane-reads.Learnt,
+  measured-reads.Asked,
+  measured-reads.Learnt,
   calm-group-reads.Asked,
   calm-group-reads.Learnt,
   calm-split-below t,
@@ -127,6 +137,8 @@ calm-node-stopped-requires-3 : (t : ℕ) → calm-node-lts.Need-stopped-requires
   stopped-reads.Learnt,
   calm-pane-reads.Asked,
   calm-pane-reads.Learnt,
+  measured-reads.Asked,
+  measured-reads.Learnt,
   calm-group-reads.Asked,
   calm-group-reads.Learnt,
   calm-split-below t,
@@ -139,6 +151,8 @@ calm-node-returns-3 : (t : ℕ) → calm-node-lts.Need-returns-3 (
   stopped-reads.Learnt,
   calm-pane-reads.Asked,
   calm-pane-reads.Learnt,
+  measured-reads.Asked,
+  measured-reads.Learnt,
   calm-group-reads.Asked,
   calm-group-reads.Learnt,
   calm-split-below t,
@@ -156,6 +170,8 @@ calm-node-mul-h : (t : ℕ) → calm-node-lts.Need-mul-h (
   stopped-reads.Learnt,
   calm-pane-reads.Asked,
   calm-pane-reads.Learnt,
+  measured-reads.Asked,
+  measured-reads.Learnt,
   calm-group-reads.Asked,
   calm-group-reads.Learnt,
   calm-split-below t,
@@ -168,6 +184,8 @@ calm-node-element-copy-out-h : (t : ℕ) → calm-node-lts.Need-element-copy-out
   stopped-reads.Learnt,
   calm-pane-reads.Asked,
   calm-pane-reads.Learnt,
+  measured-reads.Asked,
+  measured-reads.Learnt,
   calm-group-reads.Asked,
   calm-group-reads.Learnt,
   calm-split-below t,
@@ -180,6 +198,8 @@ calm-node-array-read-kind : (t : ℕ) → calm-node-lts.Need-array-read-kind (
   stopped-reads.Learnt,
   calm-pane-reads.Asked,
   calm-pane-reads.Learnt,
+  measured-reads.Asked,
+  measured-reads.Learnt,
   calm-group-reads.Asked,
   calm-group-reads.Learnt,
   calm-split-below t,
@@ -192,6 +212,8 @@ calm-node-stopped-requires-4 : (t : ℕ) → calm-node-lts.Need-stopped-requires
   stopped-reads.Learnt,
   calm-pane-reads.Asked,
   calm-pane-reads.Learnt,
+  measured-reads.Asked,
+  measured-reads.Learnt,
   calm-group-reads.Asked,
   calm-group-reads.Learnt,
   calm-split-below t,
@@ -204,6 +226,8 @@ calm-node-returns-4 : (t : ℕ) → calm-node-lts.Need-returns-4 (
   stopped-reads.Learnt,
   calm-pane-reads.Asked,
   calm-pane-reads.Learnt,
+  measured-reads.Asked,
+  measured-reads.Learnt,
   calm-group-reads.Asked,
   calm-group-reads.Learnt,
   calm-split-below t,
@@ -228,6 +252,8 @@ calm-node-element-write-claimed : (t : ℕ) → calm-node-lts.Need-element-write
   stopped-reads.Learnt,
   calm-pane-reads.Asked,
   calm-pane-reads.Learnt,
+  measured-reads.Asked,
+  measured-reads.Learnt,
   calm-group-reads.Asked,
   calm-group-reads.Learnt,
   calm-split-below t,
@@ -240,6 +266,8 @@ calm-node-array-read-calm-pane : (t : ℕ) → calm-node-lts.Need-array-read-cal
   stopped-reads.Learnt,
   calm-pane-reads.Asked,
   calm-pane-reads.Learnt,
+  measured-reads.Asked,
+  measured-reads.Learnt,
   calm-group-reads.Asked,
   calm-group-reads.Learnt,
   calm-split-below t,
@@ -252,6 +280,8 @@ calm-node-calm-pane-requires : (t : ℕ) → calm-node-lts.Need-calm-pane-requir
   stopped-reads.Learnt,
   calm-pane-reads.Asked,
   calm-pane-reads.Learnt,
+  measured-reads.Asked,
+  measured-reads.Learnt,
   calm-group-reads.Asked,
   calm-group-reads.Learnt,
   calm-split-below t,
@@ -275,6 +305,8 @@ calm-node-returns-5 : (t : ℕ) → calm-node-lts.Need-returns-5 (
   stopped-reads.Learnt,
   calm-pane-reads.Asked,
   calm-pane-reads.Learnt,
+  measured-reads.Asked,
+  measured-reads.Learnt,
   calm-group-reads.Asked,
   calm-group-reads.Learnt,
   calm-split-below t,
@@ -294,64 +326,63 @@ calm-node-returns-5 t c =
     pane-read (x .claimed .now) (x .id) (G .flags) inside open-yet (x .seen .now) (x .n) (getD h 2 0) (c .calm-pane .last .0) (c .calm-pane .result) (c .calm-pane .ensures) _
     (calm-at ns (x .id) (x .claimed .now) (take (x .n) (x .seen .now)) inside open-yet (pane (getD h 2 0)) (is ∙ ap by (c .before .before .if5 .taken)) (x .depth) deep)
 
-calm-node-mul-row : (t : ℕ) → calm-node-lts.Need-mul-row (
+calm-node-measured-requires : (t : ℕ) → calm-node-lts.Need-measured-requires (
   stopped-reads.Asked,
   stopped-reads.Learnt,
   calm-pane-reads.Asked,
   calm-pane-reads.Learnt,
+  measured-reads.Asked,
+  measured-reads.Learnt,
   calm-group-reads.Asked,
   calm-group-reads.Learnt,
   calm-split-below t,
   calm-split.Post,
 ) (calm-node-at t) calm-node.Post
-calm-node-mul-row t c = search needs
+calm-node-measured-requires t c κs =
+    let G = c .before .before .before .before .before .before .before .before .pre .1 .0 in
+    (c .before .before .before .before .before .before .if2 .left, G .ids, G .shares, G .minima)
 
-calm-node-element-copy-out-row : (t : ℕ) → calm-node-lts.Need-element-copy-out-row (
+calm-node-mul-calm-group : (t : ℕ) → calm-node-lts.Need-mul-calm-group (
   stopped-reads.Asked,
   stopped-reads.Learnt,
   calm-pane-reads.Asked,
   calm-pane-reads.Learnt,
+  measured-reads.Asked,
+  measured-reads.Learnt,
   calm-group-reads.Asked,
   calm-group-reads.Learnt,
   calm-split-below t,
   calm-split.Post,
 ) (calm-node-at t) calm-node.Post
-calm-node-element-copy-out-row t c = search needs
+calm-node-mul-calm-group t c = search needs
+
+calm-node-index-1-calm-group : (t : ℕ) → calm-node-lts.Need-index-1-calm-group (
+  stopped-reads.Asked,
+  stopped-reads.Learnt,
+  calm-pane-reads.Asked,
+  calm-pane-reads.Learnt,
+  measured-reads.Asked,
+  measured-reads.Learnt,
+  calm-group-reads.Asked,
+  calm-group-reads.Learnt,
+  calm-split-below t,
+  calm-split.Post,
+) (calm-node-at t) calm-node.Post
+calm-node-index-1-calm-group t c = search needs
 
 calm-node-calm-group-requires : (t : ℕ) → calm-node-lts.Need-calm-group-requires (
   stopped-reads.Asked,
   stopped-reads.Learnt,
   calm-pane-reads.Asked,
   calm-pane-reads.Learnt,
+  measured-reads.Asked,
+  measured-reads.Learnt,
   calm-group-reads.Asked,
   calm-group-reads.Learnt,
   calm-split-below t,
   calm-split.Post,
 ) (calm-node-at t) calm-node.Post
 calm-node-calm-group-requires t c κs =
-    let b = c .before .before .before .before .before .before .before .before .before .before in
-    let x = b .args in
-    let G = b .pre .1 .0 in
-    let ns = nodesFrom (x .heads .now) (x .ids .now) (x .shares .now) (x .minima .now) in
-    let h = getD (x .heads .now) (x .id) [] in
-    let inside = c .before .before .before .before .before .before .before .before .if2 .left in
-    let open-yet = c .before .before .before .before .before .before .if3 .left in
-    let deep = pos-of-ne-zero (c .before .before .before .before .before .before .before .before .before .if1 .left) in
-    let is = nodes-at (x .heads .now) (x .ids .now) (x .shares .now) (x .minima .now) (G .heads) (G .ids) (G .shares) (G .minima) (x .id) in
-    let by : ℕ → Node = λ k. nodeBy k h (getD (x .ids .now) (x .id) []) (getD (x .shares .now) (x .id) []) (getD (x .minima .now) (x .id) []) in
-    (G .slim (x .id) .0, omega (arith, b .pre .1 .1, one-less (x .claimed .now) (x .id) (G .flags) inside open-yet (x .seen .now) (x .n)))
-
-calm-node-returns-6 : (t : ℕ) → calm-node-lts.Need-returns-6 (
-  stopped-reads.Asked,
-  stopped-reads.Learnt,
-  calm-pane-reads.Asked,
-  calm-pane-reads.Learnt,
-  calm-group-reads.Asked,
-  calm-group-reads.Learnt,
-  calm-split-below t,
-  calm-split.Post,
-) (calm-node-at t) calm-node.Post
-calm-node-returns-6 t c =
     let b = c .before .before .before .before .before .before .before .before .before .before .before in
     let x = b .args in
     let G = b .pre .1 .0 in
@@ -362,14 +393,41 @@ calm-node-returns-6 t c =
     let deep = pos-of-ne-zero (c .before .before .before .before .before .before .before .before .before .before .if1 .left) in
     let is = nodes-at (x .heads .now) (x .ids .now) (x .shares .now) (x .minima .now) (G .heads) (G .ids) (G .shares) (G .minima) (x .id) in
     let by : ℕ → Node = λ k. nodeBy k h (getD (x .ids .now) (x .id) []) (getD (x .shares .now) (x .id) []) (getD (x .minima .now) (x .id) []) in
+    (G .slim (x .id) .0, omega (arith, b .pre .1 .1, one-less (x .claimed .now) (x .id) (G .flags) inside open-yet (x .seen .now) (x .n)), c .before .before .measured .ensures .children)
+
+calm-node-returns-6 : (t : ℕ) → calm-node-lts.Need-returns-6 (
+  stopped-reads.Asked,
+  stopped-reads.Learnt,
+  calm-pane-reads.Asked,
+  calm-pane-reads.Learnt,
+  measured-reads.Asked,
+  measured-reads.Learnt,
+  calm-group-reads.Asked,
+  calm-group-reads.Learnt,
+  calm-split-below t,
+  calm-split.Post,
+) (calm-node-at t) calm-node.Post
+calm-node-returns-6 t c =
+    let b = c .before .before .before .before .before .before .before .before .before .before .before .before in
+    let x = b .args in
+    let G = b .pre .1 .0 in
+    let ns = nodesFrom (x .heads .now) (x .ids .now) (x .shares .now) (x .minima .now) in
+    let h = getD (x .heads .now) (x .id) [] in
+    let inside = c .before .before .before .before .before .before .before .before .before .before .if2 .left in
+    let open-yet = c .before .before .before .before .before .before .before .before .if3 .left in
+    let deep = pos-of-ne-zero (c .before .before .before .before .before .before .before .before .before .before .before .if1 .left) in
+    let is = nodes-at (x .heads .now) (x .ids .now) (x .shares .now) (x .minima .now) (G .heads) (G .ids) (G .shares) (G .minima) (x .id) in
+    let by : ℕ → Node = λ k. nodeBy k h (getD (x .ids .now) (x .id) []) (getD (x .shares .now) (x .id) []) (getD (x .minima .now) (x .id) []) in
     group-read (x .claimed .now) (x .id) (G .flags) inside open-yet (x .seen .now) (x .n) h (getD (x .ids .now) (x .id) []) (c .calm-group .last .0) (c .calm-group .result) (c .calm-group .ensures) _
-    (calm-at ns (x .id) (x .claimed .now) (take (x .n) (x .seen .now)) inside open-yet _ (is ∙ ap by (c .before .before .before .if6 .taken)) (x .depth) deep)
+    (calm-at ns (x .id) (x .claimed .now) (take (x .n) (x .seen .now)) inside open-yet _ (is ∙ ap by (c .before .before .before .before .if6 .taken)) (x .depth) deep)
 
 calm-node-sub-calm-split : (t : ℕ) → calm-node-lts.Need-sub-calm-split (
   stopped-reads.Asked,
   stopped-reads.Learnt,
   calm-pane-reads.Asked,
   calm-pane-reads.Learnt,
+  measured-reads.Asked,
+  measured-reads.Learnt,
   calm-group-reads.Asked,
   calm-group-reads.Learnt,
   calm-split-below t,
@@ -382,6 +440,8 @@ calm-node-calm-split-requires : (t : ℕ) → calm-node-lts.Need-calm-split-requ
   stopped-reads.Learnt,
   calm-pane-reads.Asked,
   calm-pane-reads.Learnt,
+  measured-reads.Asked,
+  measured-reads.Learnt,
   calm-group-reads.Asked,
   calm-group-reads.Learnt,
   calm-split-below t,
@@ -412,6 +472,8 @@ calm-node-returns-7 : (t : ℕ) → calm-node-lts.Need-returns-7 (
   stopped-reads.Learnt,
   calm-pane-reads.Asked,
   calm-pane-reads.Learnt,
+  measured-reads.Asked,
+  measured-reads.Learnt,
   calm-group-reads.Asked,
   calm-group-reads.Learnt,
   calm-split-below t,
@@ -1066,6 +1128,8 @@ pub +calm-node+calm-split-spec : {M : Type 1} → statement M
   stopped-reads.Learnt,
   calm-pane-reads.Asked,
   calm-pane-reads.Learnt,
+  measured-reads.Asked,
+  measured-reads.Learnt,
   calm-group-reads.Asked,
   calm-group-reads.Learnt,
   calm-split-below t,
@@ -1089,8 +1153,9 @@ pub +calm-node+calm-split-spec : {M : Type 1} → statement M
     (calm-node-array-read-calm-pane t)
     (calm-node-calm-pane-requires t)
     (calm-node-returns-5 t)
-    (calm-node-mul-row t)
-    (calm-node-element-copy-out-row t)
+    (calm-node-measured-requires t)
+    (calm-node-mul-calm-group t)
+    (calm-node-index-1-calm-group t)
     (calm-node-calm-group-requires t)
     (calm-node-returns-6 t)
     (calm-node-sub-calm-split t)
