@@ -14,14 +14,12 @@ use Rattle.rules.specs.Lists.{contains}
 use Rattle.rules.specs.Tree.{empty, nodeAt, tile}
 use Rattle.rules.specs.Repair.{melts}
 use Rattle.rules.specs.declared.model.Axis.{Axis}
+use Rattle.forest.specs.Answers.{some-none}
 use Rattle.columns.specs.Columns.{nodesFrom}
 use Rattle.columns.specs.ColumnLaws.{nodes-long}
 use Rattle.calm.specs.Calm.{look, calmPanes, seeing}
 use Rattle.calm.specs.Reads.{sighted, looked, Sights, Groups}
 use Rattle.calm.specs.declared.Calm.{Calm}
-
-some-not-none : {A B : Type 0} {x : A} → some x ≡ none → B
-some-not-none z = absurd (let w : _≡_ {A = ℕ} 0 1 = cc in omega arith)
 
 abbrev orNone : Option (List ℕ) → List ℕ
 orNone none = []
@@ -78,12 +76,12 @@ module _ (ps seen₀ : List ℕ) (n : ℕ) where
       one-was = S .right ∙ one-is p s
 
       new : (b : Bool) → some (take (c .seen) seen′) ≡ one b p s → (b ≡ false) × (take (c .seen) seen′ ≡ s ++ p ∷ [])
-      new true e = some-not-none e
+      new true e = some-none e
       new false e = (refl, some-same _ _ e)
 
       old : (b : Bool) → none ≡ one b p s → b ≡ true
       old true e = refl
-      old false e = some-not-none (sym e)
+      old false e = some-none (sym e)
 
       pub looking-more : c .ok ≡ true → Looking ps seen₀ n seen′ (c .seen) (j + 1)
       looking-more e =

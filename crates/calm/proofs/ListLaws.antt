@@ -19,7 +19,8 @@ use Rattle.rules.specs.Repair.{melts}
 use Rattle.rules.specs.declared.model.Axis.{Axis}
 use Rattle.forest.specs.Lists.{never}
 use Rattle.forest.specs.Mended.{eq-self, shares-mended, aligned-mended}
-use Rattle.forest.specs.Equal.{and-both, one-good, shares-kept, plus-same}
+use Rattle.forest.specs.Equal.{one-good, shares-kept, plus-same}
+use Rattle.forest.specs.Bools.{and-both}
 use Rattle.calm.specs.Reads.{listsCalm}
 
 -- what is not true is false

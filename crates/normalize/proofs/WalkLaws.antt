@@ -218,11 +218,6 @@ kept-answers (At i) P w o n e p = (e, p)
 kept-answers Gone P w o n e p = (e, p)
 kept-answers Wide P w o n e p = absurd (n refl)
 
-pub wide-is : (k : Kept) → isWide k ≡ true → k ≡ Wide
-wide-is (At i) e = never (sym e)
-wide-is Gone e = never (sym e)
-wide-is Wide e = refl
-
 pub not-wide : (k : Kept) → isWide k ≡ false → k ≡ Wide → ⊥
 not-wide k e q = never (sym (ap isWide q) ∙ e)
 

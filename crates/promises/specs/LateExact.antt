@@ -16,8 +16,9 @@ use Rattle.rules.specs.Operations.{Change, Step, refuse, unchanged, changed, Ap
 use Rattle.rules.specs.Refusals.{Told, refusalOf, answerOf}
 use Rattle.rules.specs.declared.operation.TileOp.{TileOp}
 use Rattle.forest.specs.Lists.{never}
+use Rattle.forest.specs.Answers.{some-none}
 use Rattle.promises.specs.Words.{Tells, not-means}
-use Rattle.promises.specs.RepairExact.{Some, any-means, some-none}
+use Rattle.promises.specs.RepairExact.{Some, any-means}
 use Rattle.promises.specs.StepNumbers.{stepNumber, own, inner-own}
 use Rattle.promises.specs.ApplyExact.{unlike}
 

@@ -18,6 +18,7 @@ use Rattle.rules.specs.declared.refusal.Answer.the-variants.{Accepted, Refused}
 use Rattle.forest.specs.Lists.{never}
 use Rattle.promises.specs.Words.{Tells, numberOf, one-number, both-ways, and-means}
 use Rattle.forest.specs.Bools.{true-right}
+use Rattle.forest.specs.Answers.{some-none}
 
 -- some entry passes the test
 abbrev pub Some : {A : Type 0} → (A → Bool) → List A → Type 0
@@ -40,9 +41,6 @@ any-means p (x ∷ xs) = go (any-means p xs)
     go f = (there (f .0) (p x) refl, back (f .1))
 
 -- ---- room for a root: none exactly when nothing is kept and no slot is free
-
-pub some-none : {A B : Type 0} {x : A} → some x ≡ none → B
-some-none e = absurd (let z : _≡_ {A = ℕ} 0 1 = cc in omega arith)
 
 rooted-none : (free : List ℕ) (k : Option TileId) (w : Work) → (rooted free k w ≡ none) ↔ ((k ≡ none) × (free ≡ []))
 rooted-none free (some r) w = (λ e. some-none e, λ e. some-none (e .0))

@@ -15,8 +15,9 @@ use Rattle.rules.specs.Table.{Table, readTable}
 use Rattle.rules.specs.Spec.{leftOf, wideRow, builtBy, builtAs, validated, narrow, within, tabled, fromSpec}
 use Rattle.rules.specs.Refusals.{Told, told, refusalOf}
 use Rattle.rules.specs.declared.refusal.Refusal.{Refusal}
+use Rattle.forest.specs.Answers.{some-none}
 use Rattle.promises.specs.Words.{numberOf, not-means}
-use Rattle.promises.specs.RepairExact.{Some, any-means, some-none}
+use Rattle.promises.specs.RepairExact.{Some, any-means}
 use Rattle.promises.specs.ApplyExact.{unlike}
 use Rattle.promises.specs.OpsExact.{told-apart}
 use Rattle.promises.specs.SpecEnds.{checks, Check, check-rows, Ended, Slim, first, made, Swells, Ends, unread, many, broad, checked, rootless, swollen, done, ends, numbered}
