@@ -4,7 +4,6 @@ use mathlib.Core.Bool.{Bool, true, false}
 use mathlib.Core.List.{List, _++_, map}
 use Prim.Native.Nat.{ℕ}
 use lib.ListN.{length, drop}
-use lib.Ieee.{Float}
 use Rattle.rules.specs.Lists.{anyOf}
 use Rattle.rules.specs.Tree.{Arena}
 use Rattle.rules.specs.Refusals.{answerOf}
@@ -41,9 +40,3 @@ pub record Keeps (n : ℕ) (a : Arena) (l l′ : Lot) : Type 0 where
 pub record Writes (l : List RepairAction) (acts acts′ : List (List ℕ)) (n : ℕ) : Type 0 where
   pub count : n ≡ length l
   pub list : acts′ ≡ map codeOf l ++ drop (length l) acts
-
--- an array of 16 is replaced where the answer's number is 0, and else it is as it was
-pub record Fills (n : ℕ) (at xs xs′ : List Float) : Type 0 where
-  pub size : length at ≡ 16
-  pub filled : n ≡ 0 → xs′ ≡ at
-  pub left : (n ≡ 0 → ⊥) → xs′ ≡ xs

@@ -54,10 +54,10 @@ zeros-long = refl
 pub padded-end : (p : ℕ → List Float) (out : List Float) (n i : ℕ) → n ≤ i → i ≤ n → Filled p zeros out i → Padded n (p n) out
 padded-end p out n i h k f =
     let e : i ≡ n = omega arith in
-    record { front = filled-end p zeros out n i h k f; back = subst (λ (j : ℕ). drop j out ≡ drop j zeros) e (f .rest) ∙ drop-replicate n 16 zero-f }
+    record { front = filled-end p zeros out n i h k f; back = subst (λ (j : ℕ). drop j out ≡ drop j zeros) e (f .rest) ∙ drop-replicate n 16 zero-f; long = f .long ∙ zeros-long }
 
 pub padded-none : Padded 0 [] zeros
-padded-none = record { front = refl; back = refl }
+padded-none = record { front = refl; back = refl; long = zeros-long }
 
 pub take-replicate : {B : Type 0} (n m : ℕ) (b : B) → n ≤ m → take n (replicate m b) ≡ replicate n b
 take-replicate zero m b h = refl
@@ -68,7 +68,7 @@ take-replicate (suc n) zero b h = absurd (no n h)
 take-replicate {B} (suc n) (suc m) b h = ap (λ (l : List B). b ∷ l) (take-replicate n m b (omega arith))
 
 pub padded-zeros : (n : ℕ) → n ≤ 16 → Padded n (replicate n zero-f) zeros
-padded-zeros n h = record { front = take-replicate n 16 zero-f h; back = drop-replicate n 16 zero-f }
+padded-zeros n h = record { front = take-replicate n 16 zero-f h; back = drop-replicate n 16 zero-f; long = zeros-long }
 
 -- ---- what is filled in: the first i of it, and one more
 pub take-more : {A : Type 0} (l : List A) (i : ℕ) (d : A) → i < length l → take (i + 1) l ≡ take i l ++ (getD l i d ∷ [])

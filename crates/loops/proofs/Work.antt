@@ -10,11 +10,11 @@ use lib.ListN.{length, getD, take, drop, set, length-set, replicate}
 use lib.Seq.{getD-drop, take-suc-set, drop-set-lt, drop-drop, set-getD, length-take-le}
 use lib.Ieee.{Float, nan, binary64, add}
 use Rattle.rules.specs.Numbers.{zero-f}
-use Rattle.rules.specs.Solver.{sumBy, part, start, short, flexible, pin, spread, anyShort}
+use Rattle.rules.specs.Solver.{part, start, short, flexible, pin, spread, anyShort}
 use Rattle.rules.specs.declared.solving.Kid.{Kid}
 use Rattle.loops.specs.Columns.{kid, kidsShown, unfixed, Long, Worked, Tallied, Turned}
 use Rattle.loops.specs.declared.kids.Turn.{Turn}
-use Rattle.loops.proofs.Loops.{kid0, rest-at, rest-none, Summed, summed-step, summed-end}
+use Rattle.loops.proofs.Loops.{kid0, rest-at, rest-none, sum-map, Summed, summed-step, summed-end}
 use Rattle.loops.proofs.Filling.{map-more, take-replicate}
 
 -- ---- columns of one length show as many children, each its row
@@ -152,11 +152,6 @@ spread-step room flex ss ms xs₀ fs l₀ xs i w h x e =
     (working-step (spread room flex) ss ms xs₀ fs l₀ xs fs i w h x (getD fs i false) e)
 
 -- ---- the first, with its three sums by what is left
-sum-map : (on : Kid → Bool) (val : Kid → Float) (g : Kid → Kid) (a : Float) (ks : List Kid) → sumBy (λ (k : Kid). on (g k)) (λ (k : Kid). val (g k)) a ks ≡ sumBy on val a (map g ks)
-unfolding sumBy
-sum-map on val g a [] = refl
-sum-map on val g a (k ∷ ks) = sum-map on val g (cond (on (g k)) (add binary64 a (val (g k))) a) ks
-
 pub record Holding (ss ms xs₀ : List Float) (fs₀ : List Bool) (n : ℕ) (xs : List Float) (fs : List Bool) (changed : Bool) (held rest : Float) (i : ℕ) : Type 0 where
   pub few : i ≤ n
   pub work : Working pin ss ms xs₀ fs₀ xs fs i

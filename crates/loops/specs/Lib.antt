@@ -1,2 +1,3 @@
 pub mod Padded
 pub mod Columns
+pub mod Given

@@ -2,7 +2,7 @@
 use mathlib.Core.Path.{_≡_}
 use mathlib.Core.List.{List}
 use Prim.Native.Nat.{ℕ, _-_}
-use lib.ListN.{take, drop, replicate}
+use lib.ListN.{length, take, drop, replicate}
 use lib.Ieee.{Float}
 use Rattle.rules.specs.Numbers.{zero-f}
 
@@ -10,3 +10,4 @@ use Rattle.rules.specs.Numbers.{zero-f}
 pub record Padded (n : ℕ) (xs out : List Float) : Type 0 where
   pub front : take n out ≡ xs
   pub back : drop n out ≡ replicate (16 - n) zero-f
+  pub long : length out ≡ 16

@@ -6,7 +6,7 @@ use mathlib.Core.List.{List, [], _∷_, _++_, map}
 use Prim.Native.Nat.{ℕ, _-_, _≤_}
 use native.Mathlib.Omega.{arith}
 use lib.Dec.{T, eqb, leb, leb→le, eqb→eq}
-use lib.ListN.{length, take, drop, replicate, length-map, take-append-drop}
+use lib.ListN.{length, drop, replicate, length-map, take-append-drop}
 use lib.Seq.{length-take-le}
 use lib.Ieee.{Float, binary64, fits}
 use lib.Ieee.Fits.{and-l, and-r}
@@ -19,6 +19,7 @@ use Rattle.rules.specs.Solver as Rules
 use Rattle.rules.specs.declared.model.Reals.{Reals}
 use Rattle.rules.specs.declared.solving.Solution.{Solution}
 use Rattle.rules.specs.declared.refusal.Answer.the-variants.{Accepted, Refused}
+use Rattle.rules.specs.declared.refusal.Refusal.{Refusal}
 use Rattle.rules.specs.declared.refusal.Refusal.the-variants.{BadInput}
 use Rattle.number.specs.Each.{All, none, more, all-take}
 use Rattle.number.specs.Sums.{Good}
@@ -26,6 +27,7 @@ use Rattle.number.specs.Owned.{Owned}
 use Rattle.number.specs.Checks.{ShareOk, share-good, plus-good}
 use Rattle.solver.specs.Demand.{Input, Meets, solve-meets}
 use Rattle.solver.specs.declared.Solved.{Solved}
+use Rattle.solver.specs.declared.SolvedInto.{SolvedInto}
 
 -- what stands past the length is 0.0, and the length is not over 16
 pub record Clear (l : Reals) : Type 0 where
@@ -35,9 +37,28 @@ pub record Clear (l : Reals) : Type 0 where
 abbrev pub viewSolved : Solved → Lengths
 viewSolved s = record { lengths = reals (s .lengths); passes = s .passes }
 
+-- ---- the call on lent lists
+
+-- a list that is lent, with its length
+abbrev pub realsOf : List Float → ℕ → Reals
+realsOf xs n = record { at = xs; len = n }
+
+-- what is tested before the lists are read
+abbrev pub countsOk : ℕ → ℕ → Float → Bool
+countsOk n m total = leb n 16 && eqb m n && minimumOk total
+
 -- a refusal: no lengths and no passes
-abbrev pub badInput : Rules.Solved
-badInput = record { answer = Refused BadInput; lengths = []; passes = 0 }
+abbrev pub badInto : SolvedInto
+badInto = record { answer = Refused BadInput; len = 0; passes = 0 }
+
+-- the rule's answer, and its lengths with zeros after them where it is accepted; a refusal leaves the list as it was
+pub record SolvesInto (x : Rules.Solved) (xs xs′ : List Float) (r : SolvedInto) : Type 0 where
+  pub answer : r .answer ≡ x .answer
+  pub len : r .len ≡ length (x .lengths)
+  pub few : r .len ≤ 16
+  pub passes : r .passes ≡ x .passes
+  pub accepted : x .answer ≡ Accepted → xs′ ≡ x .lengths ++ replicate (16 - length (x .lengths)) zero-f
+  pub refused : (e : Refusal) → x .answer ≡ Refused e → xs′ ≡ xs
 
 -- ---- THE ANSWER IS ONE: two that meet the call's contract are equal. A Reals of the program has 16 places
 lengths-same : (a b : Reals) → length (a .at) ≡ 16 → length (b .at) ≡ 16 → Clear a → Clear b → reals a ≡ reals b → a ≡ b

@@ -1,26 +1,22 @@
 -- Laws of the calls, over plain values: how what the parts left gives each call's promise. Assumes nothing.
 use mathlib.Core.Path.{_≡_, refl, sym, ap, subst, _∙_}
 use mathlib.Core.Bool.{Bool, true, false, _&&_}
-use mathlib.Core.List.{List, _++_}
-use Prim.Native.Nat.{ℕ, _-_, _≤_}
+use mathlib.Core.List.{List}
+use Prim.Native.Nat.{ℕ, _≤_}
 use native.Mathlib.Omega.{arith}
-use lib.ListN.{length, take, replicate, take-append-drop}
-use lib.Seq.{length-take-le}
+use lib.ListN.{length}
 use lib.Ieee.{Float}
-use Rattle.rules.specs.Numbers.{zero-f}
-use Rattle.rules.specs.Tree.{Arena, view}
+use Rattle.rules.specs.Tree.{Arena}
 use Rattle.rules.specs.Sound.{sound}
 use Rattle.rules.specs.Spec.{fromSpec}
 use Rattle.rules.specs.Repair.{Repaired, repair}
 use Rattle.rules.specs.Operations.{Applied, apply}
 use Rattle.rules.specs.Frame.{Laid, layout}
-use Rattle.rules.specs.Solver.{Solved, viewSolution}
+use Rattle.rules.specs.Solver.{Solved}
 use Rattle.rules.specs.Refusals.{refusalOf, answerOf}
-use Rattle.rules.specs.declared.model.TileTree.{TileTree}
 use Rattle.rules.specs.declared.model.RepairAction.{RepairAction}
 use Rattle.rules.specs.declared.operation.TileOp.{TileOp}
 use Rattle.rules.specs.declared.frame.LayoutInput.{LayoutInput}
-use Rattle.rules.specs.declared.solving.Solution.{Solution}
 use Rattle.rules.specs.declared.refusal.Answer.{Answer}
 use Rattle.rules.specs.declared.refusal.Answer.the-variants.{Accepted, Refused}
 use Rattle.rules.specs.declared.refusal.Refusal.{Refusal}
@@ -34,9 +30,10 @@ use Rattle.docking.specs.Steps.{Comes as Becomes}
 use Rattle.docking.specs.declared.AppliedIn.{AppliedIn}
 use Rattle.layout.specs.Whole.{LaysOut}
 use Rattle.layout.specs.declared.LaidOut.{LaidOut}
-use Rattle.solver.specs.Call.{Clear}
-use Rattle.coding.specs.Lent.{Lot, lent, lotOk, opOk, opFrom, inputFrom}
-use Rattle.crossing.specs.Parts.{Tells, Holds, Keeps, Writes, Fills}
+use Rattle.solver.specs.Call.{SolvesInto}
+use Rattle.solver.specs.declared.SolvedInto.{SolvedInto}
+use Rattle.coding.specs.Lent.{Lot, lent, lotOk, opOk, opFrom, inputFrom, outOf}
+use Rattle.crossing.specs.Parts.{Tells, Holds, Keeps, Writes}
 use Rattle.tiling_c.specs.Calls.{Builds, Mends, Repairs, soundCode, Changes, Applies, Lays, LaysInto, Solves}
 
 -- ---- the number is 0 where it is accepted, and nowhere else
@@ -158,16 +155,8 @@ module _ (l : Lot) (q : List Float) (cs : List (List ℕ)) (qs : List (List Floa
 
 -- ---- solve
 
-pub solves : (x : Solved) (d : Solution) (xs xs′ : List Float) (out′ : List ℕ) (n : ℕ) → viewSolution d ≡ x → Clear (d .lengths)
-    → Tells (d .answer) (d .lengths .len) (d .passes) out′ n → Fills n (d .lengths .at) xs xs′ → Solves x xs xs′ out′ n
-solves x d xs xs′ out′ n r C T F =
-    let at = d .lengths .at in
-    let k = d .lengths .len in
-    let size : length (take k at) ≡ k = length-take-le k at (omega (arith, C .few, F .size)) in
-    subst (λ (y : Solved). Solves y xs xs′ out′ n) r
-    (record {
-      told = subst (λ (m : ℕ). Tells (d .answer) m (d .passes) out′ n) (sym size) T;
-      accepted = λ a. F .filled (zero-accepted (d .answer) n (T .number) a) ∙ sym (take-append-drop k at)
-          ∙ ap (λ (m : List Float). take k at ++ m) (C .past ∙ ap (λ (m : ℕ). replicate (16 - m) zero-f) (sym size));
-      refused = λ f q. F .left (not-refused (d .answer) n (T .number) f q);
-    })
+pub solves : (x : Solved) (d : SolvedInto) (xs xs′ : List Float) (out′ : List ℕ) (n : ℕ) → SolvesInto x xs xs′ d → Tells (d .answer) (d .len) (d .passes) out′ n → Solves x xs xs′ out′ n
+solves x d xs xs′ out′ n S T = record { told = told; accepted = S .accepted; refused = S .refused }
+  where
+    told : Tells (x .answer) (length (x .lengths)) (x .passes) out′ n
+    told = record { number = T .number ∙ ap (λ (a : Answer). answerOf a .number) (S .answer); words = T .words ∙ (λ z. outOf (answerOf (S .answer z)) (S .len z) (S .passes z)) }

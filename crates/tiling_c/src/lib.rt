@@ -7,7 +7,6 @@ use coding::operation;
 use columns::unpack;
 use crossing::actions;
 use crossing::arena;
-use crossing::solving;
 use crossing::tidy;
 use crossing::told;
 use lending::back;
@@ -274,12 +273,14 @@ pub extern "C" fn tiling_solve(
 ) -> u64
     ensures { λ r. ⌜ Solves (solve total (realsOf (now (shares .entry)) «share_count») (realsOf (now (minima .entry)) «minimum_count»)) (now (lengths .entry)) (now (lengths .exit)) (now (out .exit)) r ⌝ }
 {
-    let parts = solving::reals_of(shares, share_count);
-    let least = solving::reals_of(minima, minimum_count);
-    let d = tiling::solve(total, parts, least);
+    let d = solver::solve_into(
+        total,
+        shares,
+        share_count as usize,
+        minima,
+        minimum_count as usize,
+        lengths,
+    );
     let answer = d.answer;
-    let solved = d.lengths;
-    let n = told::tell(answer, solved.len as u64, d.passes, out);
-    solving::keep(n, solved, lengths);
-    n
+    told::tell(answer, d.len as u64, d.passes, out)
 }

@@ -3,8 +3,8 @@
 //! No export has a precondition beyond what a Rust reference is: each takes
 //! fixed arrays of numbers, any numbers. So most of them are safe to call as
 //! they stand. Three are wrapped here: the one that takes a slice, which crosses
-//! as a pointer and a length, and the two that write long lists, of which only
-//! the part in use is ever set up.
+//! as a pointer and a length, and fills an arena that nothing cleared; and the
+//! two that write long lists, of which only the part in use is ever set up.
 
 use alloc::boxed::Box;
 use core::mem::MaybeUninit;
@@ -16,11 +16,11 @@ unsafe extern "C" {
     fn tiling_from_spec(
         bytes: *const u8,
         length: usize,
-        top: &mut Top,
-        heads: &mut Heads,
-        ids: &mut Ids,
-        shares: &mut Reals,
-        minima: &mut Reals,
+        top: *mut Top,
+        heads: *mut Heads,
+        ids: *mut Ids,
+        shares: *mut Reals,
+        minima: *mut Reals,
         out: &mut Out,
     ) -> u64;
 
@@ -78,9 +78,29 @@ unsafe extern "C" {
 
 pub(crate) fn from_spec(bytes: &[u8], arena: &mut Arena, out: &mut Out) -> u64 {
     let Arena { top, heads, ids, shares, minima } = arena;
-    // SAFETY: the pointer and the length are those of one slice, which is only
-    // read.
+    // SAFETY: the first pointer and the length are those of one slice, which is
+    // only read; the others are those of arrays lent to this call alone.
     unsafe { tiling_from_spec(bytes.as_ptr(), bytes.len(), top, heads, ids, shares, minima, out) }
+}
+
+/// As [`from_spec`], into an arena that nothing cleared first.
+pub(crate) fn new_from_spec(bytes: &[u8], out: &mut Out) -> (Box<Arena>, u64) {
+    let mut arena = Box::<Arena>::new_uninit();
+    let places = arena.as_mut_ptr();
+    // SAFETY: the pointers are into a block of an arena's size, lent to this
+    // call alone, and the call reads nothing there that it did not write. It
+    // clears the four columns whole before anything else, and writes root and
+    // revision at its end, accepted or refused. Its contract, `Builds` of
+    // crates/tiling_c/specs/Calls.antt, says what tree they hold then, whatever
+    // they held before.
+    unsafe {
+        let (top, heads) = (&raw mut (*places).top, &raw mut (*places).heads);
+        let (ids, shares) = (&raw mut (*places).ids, &raw mut (*places).shares);
+        let minima = &raw mut (*places).minima;
+        let number =
+            tiling_from_spec(bytes.as_ptr(), bytes.len(), top, heads, ids, shares, minima, out);
+        (arena.assume_init(), number)
+    }
 }
 
 pub(crate) fn repair(arena: &mut Arena, actions: &mut Actions, out: &mut Out) -> u64 {

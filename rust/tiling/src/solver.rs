@@ -1,5 +1,7 @@
 //! The lengths of a split's children.
 
+use core::mem::MaybeUninit;
+
 use crate::TileError;
 use crate::arena::WIDTH;
 use crate::boundary;
@@ -37,19 +39,22 @@ impl Solution {
 /// [`TileError::BadInput`] for more than 16 children, unequal counts or numbers
 /// out of range.
 pub fn solve(total: f64, shares: &[f64], minima: &[f64]) -> Result<Solution, TileError> {
-    let mut at = [0.0; WIDTH];
+    let (mut rooms, mut at) = ([MaybeUninit::uninit(); 2], [0.0; WIDTH]);
+    let [parts, least] = &mut rooms;
     let mut out = [0; 4];
-    let parts = (&row(shares), shares.len() as u64);
-    let least = (&row(minima), minima.len() as u64);
+    let parts = (row(shares, parts), shares.len() as u64);
+    let least = (row(minima, least), minima.len() as u64);
     let number = boundary::solve(total, parts, least, &mut at, &mut out);
     answer(number, &out)?;
     Ok(Solution { at, count: index_of(out[2]).min(WIDTH), passes: out[3] })
 }
 
-/// The first 16; the count tells the library that there are more.
-fn row(numbers: &[f64]) -> [f64; WIDTH] {
-    let mut row = [0.0; WIDTH];
-    let count = numbers.len().min(WIDTH);
-    row[..count].copy_from_slice(&numbers[..count]);
-    row
+/// The first 16, where they stand or with zeros after them in `room`; the count
+/// tells the library that there are more.
+fn row<'a>(numbers: &'a [f64], room: &'a mut MaybeUninit<[f64; WIDTH]>) -> &'a [f64; WIDTH] {
+    numbers.first_chunk().unwrap_or_else(|| {
+        let room = room.write([0.0; WIDTH]);
+        room[..numbers.len()].copy_from_slice(numbers);
+        room
+    })
 }

@@ -1,7 +1,9 @@
 //! Descriptions of trees without tile ids, and the tables that they become.
 
 use alloc::vec::Vec;
+use core::slice;
 
+use crate::arena::SLOTS;
 use crate::{Axis, PaneId, SplitConstraints, TabBarPlacement};
 
 /// What a tree is made from.
@@ -80,62 +82,77 @@ impl TileSpec {
     /// number, and its details speak of 65,535.
     #[must_use]
     pub fn table(&self) -> Vec<u8> {
-        let mut parts = Parts::default();
+        let specs = self.preorder();
+        let count: usize = specs.iter().map(Entries::count).sum();
+        let mut bytes = Vec::with_capacity(4 * 4 + 8 * count);
+        section(&mut bytes, specs.iter().map(|it| it.row));
+        section(&mut bytes, specs.iter().flat_map(|it| it.panes).map(|it| it.0.to_le_bytes()));
+        section(&mut bytes, specs.iter().flat_map(|it| it.shares).map(|it| it.to_le_bytes()));
+        section(&mut bytes, specs.iter().flat_map(|it| it.minima).map(|it| it.to_le_bytes()));
+        bytes
+    }
+
+    /// A spec before its children, and these in order.
+    fn preorder(&self) -> Vec<Entries<'_>> {
+        // Room for what is accepted; more is refused.
+        let mut specs = Vec::with_capacity(SLOTS);
         // A stack of its own, since a spec may be nested deeper than calls can be.
-        let mut waiting = alloc::vec![self];
+        let mut waiting = Vec::with_capacity(SLOTS);
+        waiting.push(self);
         while let Some(spec) = waiting.pop() {
-            parts.push(spec);
+            specs.push(spec.entries());
             if let Self::Split { children, .. } = spec {
                 waiting.extend(children[..short(children.len()).into()].iter().rev());
             }
         }
-        parts.bytes()
+        specs
     }
-}
 
-/// The four sections' entries.
-#[derive(Default)]
-struct Parts {
-    rows: Vec<[u8; 8]>,
-    panes: Vec<[u8; 8]>,
-    shares: Vec<[u8; 8]>,
-    minima: Vec<[u8; 8]>,
-}
-
-impl Parts {
-    fn push(&mut self, spec: &TileSpec) {
-        match spec {
-            TileSpec::Pane(pane) => {
-                self.rows.push(row([0, 0], [1, 0, 0]));
-                self.panes.push(pane.0.to_le_bytes());
+    fn entries(&self) -> Entries<'_> {
+        match self {
+            Self::Pane(pane) => {
+                let row = row([0, 0], [1, 0, 0]);
+                Entries { row, panes: slice::from_ref(pane), shares: &[], minima: &[] }
             }
-            TileSpec::Tabs { panes, active, placement } => {
+            Self::Tabs { panes, active, placement } => {
                 let count = short(panes.len());
-                self.rows.push(row([1, placement.code() as u8], [count, short(*active), 0]));
-                let panes = panes[..count.into()].iter();
-                self.panes.extend(panes.map(|pane| pane.0.to_le_bytes()));
+                let row = row([1, placement.code() as u8], [count, short(*active), 0]);
+                Entries { row, panes: &panes[..count.into()], shares: &[], minima: &[] }
             }
-            TileSpec::Split { axis, children, shares, constraints } => {
+            Self::Split { axis, children, shares, constraints } => {
                 let minima = &constraints.min_major;
                 let counts = [short(children.len()), short(shares.len()), short(minima.len())];
-                self.rows.push(row([2, axis.code() as u8], counts));
-                self.shares.extend(shares[..counts[1].into()].iter().map(|it| it.to_le_bytes()));
-                self.minima.extend(minima[..counts[2].into()].iter().map(|it| it.to_le_bytes()));
+                let row = row([2, axis.code() as u8], counts);
+                let [_, shares_count, minima_count] = counts.map(usize::from);
+                let (shares, minima) = (&shares[..shares_count], &minima[..minima_count]);
+                Entries { row, panes: &[], shares, minima }
             }
         }
     }
+}
 
-    fn bytes(&self) -> Vec<u8> {
-        let sections = [&self.rows, &self.panes, &self.shares, &self.minima];
-        let length = sections.iter().map(|section| 4 + 8 * section.len()).sum();
-        let mut bytes = Vec::with_capacity(length);
-        for section in sections {
-            // More than 2^32 entries do not fit in memory beside their spec.
-            bytes.extend_from_slice(&(section.len() as u32).to_le_bytes());
-            bytes.extend_from_slice(section.as_flattened());
-        }
-        bytes
+/// What one spec has in each of the four sections.
+struct Entries<'a> {
+    row: [u8; 8],
+    panes: &'a [PaneId],
+    shares: &'a [f64],
+    minima: &'a [f64],
+}
+
+impl Entries<'_> {
+    const fn count(&self) -> usize {
+        1 + self.panes.len() + self.shares.len() + self.minima.len()
     }
+}
+
+/// A section's length and its entries.
+fn section(bytes: &mut Vec<u8>, entries: impl Iterator<Item = [u8; 8]>) {
+    let start = bytes.len();
+    bytes.extend_from_slice(&[0; 4]);
+    entries.for_each(|entry| bytes.extend_from_slice(&entry));
+    let count = (bytes.len() - start) / 8;
+    // More than 2^32 entries do not fit in memory beside their spec.
+    bytes[start..start + 4].copy_from_slice(&(count as u32).to_le_bytes());
 }
 
 fn row(codes: [u8; 2], counts: [u16; 3]) -> [u8; 8] {

@@ -8,6 +8,7 @@ use crate::arena::{Arena, head, kind};
 use crate::boundary;
 use crate::buffer::FrameBuffer;
 use crate::error::answer;
+use crate::ffi;
 use crate::panes::Panes;
 use crate::repair::{self, RepairAction};
 use crate::{
@@ -49,9 +50,8 @@ impl TileTree {
     ///
     /// 1 for bytes that are no table, and as [`TileTree::from_spec`].
     pub fn from_table(bytes: &[u8]) -> Result<Self, TileError> {
-        let mut arena = Arena::boxed();
         let mut out = [0; 4];
-        let number = boundary::from_spec(bytes, &mut arena, &mut out);
+        let (arena, number) = ffi::new_from_spec(bytes, &mut out);
         answer(number, &out).map(|()| Self { arena })
     }
 

@@ -15,8 +15,9 @@ parts-requires c κs = search needs
 returns : tie.Need-returns
 unfolding ofBits
 returns c =
-    let a = c .before .before .args in
-    tight-parts (a .total) (a .least) (a .n) (take (a .n) (a .minima .now)) (c .parts .result) (c .before .if1 .taken) (c .parts .ensures)
+    let t = c .before .before in
+    let a = t .before .args in
+    tight-parts (a .total) (a .least) (a .n) (take (a .n) (a .minima .now)) _ (t .if1 .taken) (c .parts .ensures)
 
 whole-requires : tie.Need-whole-requires
 whole-requires c κs = search needs
@@ -27,10 +28,12 @@ even-requires c κs = search needs
 returns-2 : tie.Need-returns-2
 unfolding ofBits
 returns-2 c =
-    let s = c .before .before .before in
+    let w = c .before .before in
+    let e = w .before in
+    let s = e .before in
     let a = s .args in
     let l : length (take (a .n) (a .minima .now)) ≡ a .n = length-take-le (a .n) (a .minima .now) (omega (arith, s .pre .0, s .pre .1)) in
-    tight-even (a .total) (a .least) (a .n) (take (a .n) (a .minima .now)) (c .even .result) (c .before .before .if1 .left) l (c .before .whole .result) (c .before .whole .ensures) (c .even .ensures)
+    tight-even (a .total) (a .least) (a .n) (take (a .n) (a .minima .now)) _ (e .if1 .left) l (w .whole .result) (w .whole .ensures) (c .even .ensures)
 
 pub tight-spec : {M : Type 1} → statement M
 tight-spec = tie.close (tie.spec parts-requires returns whole-requires even-requires returns-2)

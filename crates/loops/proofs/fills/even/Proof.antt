@@ -17,13 +17,13 @@ abbrev μ-loop : tie.MeasureT-loop
 
 loop-holds : tie.Need-loop-holds Inv-loop μ-loop
 unfolding ofBits
-loop-holds c = (omega arith, filled-start (λ (j : ℕ). replicate j (c .args .x)) zeros refl)
+loop-holds c = (omega arith, filled-start (λ (j : ℕ). replicate j (c .before .args .x)) zeros refl)
 
 mul-out : tie.Need-mul-out Inv-loop μ-loop
 mul-out c = search needs
 
-array-write-out : tie.Need-array-write-out Inv-loop μ-loop
-array-write-out c = search needs
+element-write-out : tie.Need-element-write-out Inv-loop μ-loop
+element-write-out c = omega (arith, zeros-long)
 
 add-i : tie.Need-add-i Inv-loop μ-loop
 add-i c = search needs
@@ -34,14 +34,14 @@ loop-less c = search needs
 loop-again : tie.Need-loop-again Inv-loop μ-loop
 loop-again c =
     let b = c .before in
-    let x = b .before .args .x in
+    let x = b .before .before .args .x in
     let i = b .loop .i in
     let h : i < length zeros = omega (arith, zeros-long) in
     (omega arith, filled-step (λ (j : ℕ). replicate j x) zeros (b .loop .out) i x h (same-more x i) (b .loop .inv .1))
 
 returns : tie.Need-returns Inv-loop μ-loop
 returns c =
-    let a = c .before .before .args in
+    let a = c .before .before .before .args in
     padded-end (λ (j : ℕ). replicate j (a .x)) (c .before .loop .out) (a .n) (c .before .loop .i) (c .loop-test .left) (c .before .loop .inv .0) (c .before .loop .inv .1)
 
 pub even-spec : {M : Type 1} → statement M
@@ -52,7 +52,7 @@ even-spec =
     μ-loop
     loop-holds
     mul-out
-    array-write-out
+    element-write-out
     add-i
     loop-less
     loop-again
