@@ -1,6 +1,6 @@
 // A split's lists, read where they stand: whether repair would leave them as they are, by a test of each entry alone.
 use columns::slots;
-use solver::checks;
+use loops::tests;
 ghost use mathlib.Core.Path.{_≡_};
 ghost use mathlib.Core.List.{[]};
 ghost use Prim.Native.Nat.{_≤_, _<_};
@@ -37,7 +37,7 @@ fn shares_calm(row: &[f64; 16], n: usize, count: usize) -> bool
     if n != count {
         return false;
     }
-    checks::shares_ok(row, n)
+    tests::shares_ok(row, n)
 }
 
 // Whether aligned_constraints and compact_constraints leave n minima: no more than the children, each is good, and the last is not
@@ -55,7 +55,7 @@ fn minima_calm(row: &[f64; 16], n: usize, count: usize) -> bool
     if row[n - 1] == 0.0 {
         return false;
     }
-    checks::minima_ok(row, n)
+    tests::minima_ok(row, n)
 }
 
 // Whether a split's lists need no mending, and it has two children or more.

@@ -1,6 +1,7 @@
-// The solver's loops over a split's children: what util.rs's `solve_lengths_with_min` starts from, sums and fills.
+// Loops over a split's lists: those of util.rs's `solve_lengths_with_min`, and tests of each entry.
 
 pub mod fills;
 pub mod given;
 pub mod kids;
 pub mod sums;
+pub mod tests;

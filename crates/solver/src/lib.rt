@@ -1,6 +1,6 @@
 // The lengths of a split's children: util.rs's `solve_lengths_with_min`, with the count of its passes, and the public call over it.
 // The rule is rules::specs::Solver; what is proved of it stands in specs/.
-pub mod checks;
+mod checks;
 mod passes;
 
 use loops::fills;
