@@ -1,4 +1,6 @@
 // Document 01's number and two details of every answer.
+#![tactic(auto)]
+
 ghost use Rattle.std.specs.Prelude.{◌≡◌};
 ghost use Rattle.rules.specs.Refusals.{answer_of, refusal_of};
 ghost use Rattle.answers.specs.Numbers.{told_of};
@@ -6,7 +8,7 @@ ghost use Rattle.answers.specs.Numbers.{told_of};
 use rules::refusal::{Answer, Refusal};
 
 // A number, 0 where it is accepted, and its two details, 0 unless document 01 names them.
-#[derive(Drop)]
+#[derive(Clone, Copy)]
 pub struct Told {
     pub number: u64,
     pub first: u64,

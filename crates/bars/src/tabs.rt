@@ -9,7 +9,7 @@ use rules::frame::Rect;
 use rules::model::TabBarPlacement;
 
 // The pair that split_tab_bar answers: the bar, and what it leaves to the pane.
-#[derive(Drop)]
+#[derive(Clone, Copy)]
 pub struct Barred {
     pub bar: Rect,
     pub pane: Rect,

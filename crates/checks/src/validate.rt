@@ -18,7 +18,7 @@ use table::row::{TableRow, minima_used, panes_used, shares_used};
 use table::sections::Places;
 
 // The Rust's Result<(), TileSpecError>.
-#[derive(Drop)]
+#[derive(Clone, Copy)]
 pub enum Checked {
     Good,
     Bad(Refusal),

@@ -1,6 +1,8 @@
 // An arena's slots as columns: a field at a time, in arrays of numbers that can be lent to a recursion, since a tree by value in one would cost its size
 // in stack at each level. A slot's head is kind (0 empty, 1 pane, 2 group, 3 split), mode (a group's placement, a split's axis), pane, active, and the
 // lengths of its ids, shares and minima. Beside them the list of actions that repair writes, and its report.
+#![tactic(auto)]
+
 use rules::model::RepairAction;
 
 pub mod modes;
@@ -9,13 +11,13 @@ pub mod slots;
 pub mod unpack;
 
 // One action of a repair. A struct, since an array of enums cannot be a field.
-#[derive(Drop)]
+#[derive(Clone, Copy)]
 pub struct Listed {
     pub action: RepairAction,
 }
 
 // The actions of a repair, in order: the Rust's RepairReport. 1,300 places always suffice.
-#[derive(Drop)]
+#[derive(Clone, Copy)]
 pub struct Report {
     pub at: [Listed; 1300],
     pub len: usize,

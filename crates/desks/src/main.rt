@@ -1,4 +1,6 @@
 // Desks by hand, laid out by the compiled code: document 01's E11 and E12, the empty desk, one with all 64 slots in use, and the deepest.
+#![tactic(auto)]
+
 ghost use Rattle.std.specs.Prelude.{◌≤◌, ◌<◌};
 
 use frame::{Layout, Panes, Tabs};

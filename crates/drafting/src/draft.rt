@@ -16,7 +16,7 @@ use rules::refusal::{Answer, Refusal};
 use table::preorder::read_table;
 use table::sections::{Places, Sections};
 
-#[derive(Drop)]
+#[derive(Clone, Copy)]
 pub struct Draft {
     pub answer: Answer,
     pub tree: TileTree,

@@ -1,4 +1,6 @@
 // A frame by value: the Rust's LayoutFrame (frame.rs), its seven lists sorted out of the stream that the crate layout writes.
+#![tactic(auto)]
+
 use items::Painted;
 use rules::frame::{PaneFrame, SplitChildFrame, SplitHandleFrame, TabBarFrame, TabFrame};
 use rules::refusal::Answer;
@@ -9,50 +11,50 @@ pub mod orders;
 pub mod whole;
 
 // The Rust's growing lists. The places of each suffice for every sound tree.
-#[derive(Drop)]
+#[derive(Clone, Copy)]
 pub struct Panes {
     pub at: [PaneFrame; 64],
     pub len: usize,
 }
 
-#[derive(Drop)]
+#[derive(Clone, Copy)]
 pub struct TabBars {
     pub at: [TabBarFrame; 64],
     pub len: usize,
 }
 
-#[derive(Drop)]
+#[derive(Clone, Copy)]
 pub struct Tabs {
     pub at: [TabFrame; 1024],
     pub len: usize,
 }
 
-#[derive(Drop)]
+#[derive(Clone, Copy)]
 pub struct SplitChildren {
     pub at: [SplitChildFrame; 64],
     pub len: usize,
 }
 
-#[derive(Drop)]
+#[derive(Clone, Copy)]
 pub struct SplitHandles {
     pub at: [SplitHandleFrame; 64],
     pub len: usize,
 }
 
-#[derive(Drop)]
+#[derive(Clone, Copy)]
 pub struct FocusOrder {
     pub at: [u64; 1024],
     pub len: usize,
 }
 
-#[derive(Drop)]
+#[derive(Clone, Copy)]
 pub struct PaintOrder {
     pub at: [Painted; 1216],
     pub len: usize,
 }
 
 // What a layout answers: the frame of a revision; or a refusal, and empty lists.
-#[derive(Drop)]
+#[derive(Clone, Copy)]
 pub struct Layout {
     pub answer: Answer,
     pub revision: u64,

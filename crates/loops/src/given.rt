@@ -4,7 +4,7 @@ ghost use Rattle.std.specs.Prelude.{◌≡◌, ◌≤◌, length};
 ghost use Rattle.loops.specs.Given.{Reads};
 
 // Whether every share and minimum is good, and the Rust's `share_sum` and `min_total`.
-#[derive(Drop)]
+#[derive(Clone, Copy)]
 pub struct Given {
     pub fine: bool,
     pub shares: f64,

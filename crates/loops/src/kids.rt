@@ -6,7 +6,7 @@ ghost use Rattle.loops.specs.Columns.{kids_shown, Long, Worked, Tallied, Turned}
 use rules::solving::Kid;
 
 // The locals of the Rust's outer loop: `changed`, `fixed_total` and `flexible_share_total`.
-#[derive(Drop)]
+#[derive(Clone, Copy)]
 pub struct Held {
     pub changed: bool,
     pub held: f64,
@@ -14,7 +14,7 @@ pub struct Held {
 }
 
 // A child's length and whether it is fixed, and those locals, after its turn.
-#[derive(Drop)]
+#[derive(Clone, Copy)]
 pub struct Turn {
     pub size: f64,
     pub fixed: bool,

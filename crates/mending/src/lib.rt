@@ -1,4 +1,6 @@
 // Repair of lent arrays: the arena in its columns, its actions in the list that is lent, the answer told.
+#![tactic(auto)]
+
 ghost use Rattle.std.specs.Prelude.{◌≡◌, true, not, ◌&&◌, List, ℕ, length};
 ghost use Rattle.rules.specs.Lists.{any_of};
 ghost use Rattle.rules.specs.Repair.{repair};

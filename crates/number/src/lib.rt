@@ -1,5 +1,7 @@
 // The few things that the Rust asks of an f64 (`is_finite`, `max`, `min`, casts of counts), and a number read from bytes.
 // Each is by comparison, so that what it answers at NaN, infinity and minus zero is what rules::specs::Numbers says.
+#![tactic(auto)]
+
 ghost use Rattle.std.specs.Prelude.{◌≡◌, ◌+◌, ◌≤◌, length, take, drop};
 ghost use Rattle.std.specs.Float.{binary64};
 ghost use Rattle.std.specs.Float.Ieee.{of_bits};

@@ -4,7 +4,7 @@ ghost use Rattle.reader.specs.Section.{SectionAt};
 use crate::bytes::count;
 
 // Where a section's entries start, and how many there are; or the bytes end within it.
-#[derive(Drop)]
+#[derive(Clone, Copy)]
 pub enum Found {
     At(usize, usize),
     Short,

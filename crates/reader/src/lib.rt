@@ -1,5 +1,7 @@
 // The table reader: a spec's bytes, as they are lent, and a place in them, kept together. It is taken apart at once, and the work is that of `cursor`,
 // whose parameters are a plain slice and a number. The borrow checker covers no function over such a struct, so each is proved by hand.
+#![tactic(auto)]
+
 pub mod bytes;
 pub mod cursor;
 
@@ -8,7 +10,7 @@ ghost use Rattle.reader.specs.Section.{SectionAt};
 
 use crate::cursor::{Found, find_section};
 
-#[derive(Drop)]
+#[derive(Clone, Copy)]
 pub struct Reader<'a> {
     pub bytes: &'a [u8],
     pub at: usize,

@@ -2,7 +2,7 @@
 // Left out, being fixed in the Rust too: a pane's clip (its rect) and active (true), a bar's viewport (its rect).
 use crate::model::{Axis, TabBarPlacement, TileId};
 
-#[derive(Drop)]
+#[derive(Clone, Copy)]
 pub struct Rect {
     pub x0: f64,
     pub y0: f64,
@@ -10,13 +10,13 @@ pub struct Rect {
     pub y1: f64,
 }
 
-#[derive(Drop)]
+#[derive(Clone, Copy)]
 pub struct Size {
     pub width: f64,
     pub height: f64,
 }
 
-#[derive(Drop)]
+#[derive(Clone, Copy)]
 pub struct LayoutInput {
     pub bounds: Rect,
     pub tab_bar_thickness: f64,
@@ -24,14 +24,14 @@ pub struct LayoutInput {
     pub min_pane_size: Size,
 }
 
-#[derive(Drop)]
+#[derive(Clone, Copy)]
 pub struct PaneFrame {
     pub pane: u64,
     pub tile: TileId,
     pub rect: Rect,
 }
 
-#[derive(Drop)]
+#[derive(Clone, Copy)]
 pub struct TabBarFrame {
     pub group: TileId,
     pub rect: Rect,
@@ -39,7 +39,7 @@ pub struct TabBarFrame {
     pub active_pane: u64,
 }
 
-#[derive(Drop)]
+#[derive(Clone, Copy)]
 pub struct TabFrame {
     pub group: TileId,
     pub pane: u64,
@@ -48,7 +48,7 @@ pub struct TabFrame {
     pub active: bool,
 }
 
-#[derive(Drop)]
+#[derive(Clone, Copy)]
 pub struct SplitChildFrame {
     pub split: TileId,
     pub child: TileId,
@@ -56,7 +56,7 @@ pub struct SplitChildFrame {
     pub rect: Rect,
 }
 
-#[derive(Drop)]
+#[derive(Clone, Copy)]
 pub struct SplitHandleFrame {
     pub split: TileId,
     pub handle: usize,
@@ -64,7 +64,7 @@ pub struct SplitHandleFrame {
     pub rect: Rect,
 }
 
-#[derive(Drop)]
+#[derive(Clone, Copy)]
 pub enum FrameItemId {
     Pane(u64),
     TabBar(TileId),

@@ -1,45 +1,45 @@
 // The tree: an arena of 64 slots. The Rust's ids.rs and model.rs; document 01, 'The arena'.
 
 // A tile's name. A struct from the start, so that it can grow a second number (request W-207).
-#[derive(Drop)]
+#[derive(Clone, Copy)]
 pub struct TileId {
     pub slot: u64,
 }
 
 // Growing lists of the Rust: lists of 16 with a length. A length over 16 may come in.
-#[derive(Drop)]
+#[derive(Clone, Copy)]
 pub struct Ids {
     pub at: [u64; 16],
     pub len: usize,
 }
 
-#[derive(Drop)]
+#[derive(Clone, Copy)]
 pub struct Tiles {
     pub at: [TileId; 16],
     pub len: usize,
 }
 
-#[derive(Drop)]
+#[derive(Clone, Copy)]
 pub struct Reals {
     pub at: [f64; 16],
     pub len: usize,
 }
 
 // Horizontal: children side by side, from left to right.
-#[derive(Drop)]
+#[derive(Clone, Copy)]
 pub enum Axis {
     Horizontal,
     Vertical,
 }
 
 // On which side of a tile another is put.
-#[derive(Drop)]
+#[derive(Clone, Copy)]
 pub enum Placement {
     Before,
     After,
 }
 
-#[derive(Drop)]
+#[derive(Clone, Copy)]
 pub enum TabBarPlacement {
     Hidden,
     Top,
@@ -49,7 +49,7 @@ pub enum TabBarPlacement {
 }
 
 // The Rust's TileNode, whose lists stand beside the kind, in the slot.
-#[derive(Drop)]
+#[derive(Clone, Copy)]
 pub enum Kind {
     Empty,
     Pane(u64),
@@ -58,7 +58,7 @@ pub enum Kind {
 }
 
 // The Rust's NodeSlot. A group uses active and panes; a split children, shares and minima.
-#[derive(Drop)]
+#[derive(Clone, Copy)]
 pub struct Slot {
     pub kind: Kind,
     pub active: usize,
@@ -68,7 +68,7 @@ pub struct Slot {
     pub minima: Reals,
 }
 
-#[derive(Drop)]
+#[derive(Clone, Copy)]
 pub struct TileTree {
     pub root: TileId,
     pub revision: u64,
@@ -76,7 +76,7 @@ pub struct TileTree {
 }
 
 // One repair performed (the Rust's snapshot.rs).
-#[derive(Drop)]
+#[derive(Clone, Copy)]
 pub enum RepairAction {
     RemovedInvalidNode(TileId),
     RepairedActiveTab(TileId),

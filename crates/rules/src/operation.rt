@@ -2,14 +2,14 @@
 use crate::model::{Axis, Placement, TileId};
 
 // The Rust's Option<usize>: a place in a group, or its end.
-#[derive(Drop)]
+#[derive(Clone, Copy)]
 pub enum TabIndex {
     End,
     At(usize),
 }
 
 // Where a moved pane goes. The one beside a tile carries its own split ratio.
-#[derive(Drop)]
+#[derive(Clone, Copy)]
 pub enum DockTarget {
     Root,
     Split {
@@ -24,7 +24,7 @@ pub enum DockTarget {
     },
 }
 
-#[derive(Drop)]
+#[derive(Clone, Copy)]
 pub enum TileOp {
     ActivatePane {
         pane: u64,

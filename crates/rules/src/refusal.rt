@@ -1,6 +1,6 @@
 // Document 01's refusals, with their details as data: the Rust's TileError and TileSpecError, and document 01's own.
 // specs/Refusals.antt gives each its number and its two detail numbers.
-#[derive(Drop)]
+#[derive(Clone, Copy)]
 pub enum Refusal {
     BadTable,
     ArenaFull,
@@ -23,7 +23,7 @@ pub enum Refusal {
 }
 
 // What a call answers beside the values that it hands back.
-#[derive(Drop)]
+#[derive(Clone, Copy)]
 pub enum Answer {
     Accepted,
     Refused(Refusal),

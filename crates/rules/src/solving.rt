@@ -3,7 +3,7 @@ use crate::model::Reals;
 use crate::refusal::Answer;
 
 // A child in the solver's work: the Rust's parallel lists shares, min_major, lengths and fixed, one entry of each.
-#[derive(Drop)]
+#[derive(Clone, Copy)]
 pub struct Kid {
     pub share: f64,
     pub minimum: f64,
@@ -12,7 +12,7 @@ pub struct Kid {
 }
 
 // What `solve` answers: the lengths and the number of passes, or a refusal with no lengths and no passes.
-#[derive(Drop)]
+#[derive(Clone, Copy)]
 pub struct Solution {
     pub answer: Answer,
     pub lengths: Reals,

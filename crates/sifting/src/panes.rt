@@ -50,7 +50,7 @@ pub fn see(seen: &mut [u64; 1024], n: usize, pane: u64) -> usize
 }
 
 // The panes of a group kept so far, and the counts.
-#[derive(Drop)]
+#[derive(Clone, Copy)]
 pub struct Sift {
     pub list: Ids,
     pub counts: Counts,

@@ -1,5 +1,7 @@
 // The lengths of a split's children: util.rs's `solve_lengths_with_min`, with the count of its passes, and the public call over it.
 // The rule is rules::specs::Solver; what is proved of it stands in specs/.
+#![tactic(auto)]
+
 mod checks;
 mod passes;
 
@@ -18,14 +20,14 @@ use rules::refusal::{Answer, Refusal};
 use rules::solving::Solution;
 
 // The Rust's `Vec<f64>` of lengths, and how often the outer loop ran.
-#[derive(Drop)]
+#[derive(Clone, Copy)]
 pub struct Solved {
     pub lengths: Reals,
     pub passes: u64,
 }
 
 // What the public call answers beside the lengths that it writes: how many, and the passes.
-#[derive(Drop)]
+#[derive(Clone, Copy)]
 pub struct SolvedInto {
     pub answer: Answer,
     pub len: usize,

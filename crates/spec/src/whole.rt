@@ -14,7 +14,7 @@ use rules::refusal::Answer;
 use settling::settle::repair_columns;
 
 // What a spec came to in columns, and the root of its tree.
-#[derive(Drop)]
+#[derive(Clone, Copy)]
 pub struct Rooted {
     pub answer: Answer,
     pub root: u64,

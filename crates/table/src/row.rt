@@ -8,7 +8,7 @@ use reader::bytes::{byte, pair};
 use rules::model::{Axis, TabBarPlacement};
 
 // TileSpec::Pane, TileSpec::Tabs and TileSpec::Split, with the number of entries that each takes off the other sections.
-#[derive(Drop)]
+#[derive(Clone, Copy)]
 pub enum TableRow {
     Pane,
     Tabs {
@@ -24,19 +24,19 @@ pub enum TableRow {
     },
 }
 
-#[derive(Drop)]
+#[derive(Clone, Copy)]
 pub enum RowRead {
     Row(TableRow),
     Bad,
 }
 
-#[derive(Drop)]
+#[derive(Clone, Copy)]
 pub enum BarRead {
     Bar(TabBarPlacement),
     Bad,
 }
 
-#[derive(Drop)]
+#[derive(Clone, Copy)]
 pub enum AxisRead {
     Axis(Axis),
     Bad,

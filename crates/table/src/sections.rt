@@ -5,7 +5,7 @@ use reader::cursor::Found;
 use reader::section_at;
 
 // Where each section's entries start, and how many there are.
-#[derive(Drop)]
+#[derive(Clone, Copy)]
 pub struct Places {
     pub rows: usize,
     pub row_count: usize,
@@ -17,7 +17,7 @@ pub struct Places {
     pub minimum_count: usize,
 }
 
-#[derive(Drop)]
+#[derive(Clone, Copy)]
 pub enum Sections {
     Four(Places),
     Bad,

@@ -1,11 +1,13 @@
 // Spec tables made here, at the edges of document 01: 64 and 65 rows, 16 and 17 children, 100,000 rows, and every beginning of a good table.
 // Each line of the output is a case and the number of its answer, 0 where it is accepted.
+#![tactic(auto)]
+
 ghost use Rattle.std.specs.Prelude.{◌≤◌};
 
 use libc::STDOUT_FILENO;
 
 // Bytes written so far.
-#[derive(Drop)]
+#[derive(Clone, Copy)]
 struct Written {
     at: [u8; 2048],
     len: usize,
@@ -53,7 +55,7 @@ fn row(w: Written, kind: u8, mode: u8, count: u64, extra: u64, minima: u64) -> W
 }
 
 // What is repeated: a pane's row, a pane's number, a share.
-#[derive(Drop)]
+#[derive(Clone, Copy)]
 enum Item {
     Row,
     Number,

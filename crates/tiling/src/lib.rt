@@ -1,5 +1,7 @@
 // Dimbovala's public calls, with what each promises: the Rust's lib.rs. None has a precondition: each answers, or refuses with a number from document 01.
 // Each `ensures` equates what comes back with the rule of the call's name in crates/rules/specs, refusals included, for all inputs.
+#![tactic(auto)]
+
 ghost use Rattle.std.specs.Prelude.{◌≡◌, true};
 ghost use Rattle.rules.specs.Tree.{view};
 ghost use Rattle.rules.specs.Sound.{sound};

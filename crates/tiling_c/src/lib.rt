@@ -2,6 +2,8 @@
 // An arena is `top` (root, revision) and the four columns of the crate columns. Each call returns document 01's number, 0 where it is accepted, and writes
 // `out`: the two details, and a count (actions, items of a frame, lengths) with what stands beside it. A number that is no kind, mode, axis, placement or
 // operation is refused with 5, and then nothing is written.
+#![tactic(auto)]
+
 ghost use Rattle.std.specs.Prelude.{◌≡◌, true, ℕ};
 ghost use Rattle.rules.specs.Sound.{sound};
 ghost use Rattle.rules.specs.Solver.{solve};

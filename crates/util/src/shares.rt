@@ -20,7 +20,7 @@ pub fn fix_share(share: f64) -> f64
 }
 
 // The second list of repaired_shares, and its flag: whether any share was good.
-#[derive(Drop)]
+#[derive(Clone, Copy)]
 struct Mended {
     repaired: Reals,
     valid: bool,

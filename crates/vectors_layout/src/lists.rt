@@ -9,7 +9,7 @@ use rules::frame::{
 use rules::model::Axis;
 
 // Whether all agreed so far, and the place after what was read.
-#[derive(Drop)]
+#[derive(Clone, Copy)]
 pub struct Seen {
     pub ok: bool,
     pub at: usize,

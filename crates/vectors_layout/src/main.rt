@@ -1,4 +1,6 @@
 // The stored layouts (docs/VECTORS.md), put to the library and compared bit for bit.
+#![tactic(auto)]
+
 ghost use Rattle.std.specs.Prelude.{◌≤◌};
 
 use frame::Layout;
@@ -10,14 +12,14 @@ use wire::threes::Numbers;
 mod lists;
 
 // A layout's input, and the place after it.
-#[derive(Drop)]
+#[derive(Clone, Copy)]
 struct InputRead {
     input: LayoutInput,
     at: usize,
 }
 
 // A rectangle, and the place after it.
-#[derive(Drop)]
+#[derive(Clone, Copy)]
 struct RectRead {
     rect: Rect,
     at: usize,

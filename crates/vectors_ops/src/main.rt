@@ -1,4 +1,6 @@
 // The stored runs of operations (docs/VECTORS.md), put to the library one after another and compared bit for bit.
+#![tactic(auto)]
+
 ghost use Rattle.std.specs.Prelude.{◌≤◌};
 
 use libc::STDOUT_FILENO;
@@ -11,7 +13,7 @@ mod operation;
 mod readings;
 
 // Where a run stands: the place in the body, the tree, and whether every operation so far agreed.
-#[derive(Drop)]
+#[derive(Clone, Copy)]
 struct Run {
     at: usize,
     tree: TileTree,

@@ -6,14 +6,14 @@ use rules::operation::{DockTarget, TabIndex, TileOp};
 use wire::tree;
 
 // An operation, and the place after it.
-#[derive(Drop)]
+#[derive(Clone, Copy)]
 pub struct OpRead {
     pub op: TileOp,
     pub at: usize,
 }
 
 // A target, and the place after it.
-#[derive(Drop)]
+#[derive(Clone, Copy)]
 struct TargetRead {
     target: DockTarget,
     at: usize,

@@ -1,4 +1,6 @@
 // The stored repairs (docs/VECTORS.md), put to the library and compared bit for bit.
+#![tactic(auto)]
+
 ghost use Rattle.std.specs.Prelude.{◌≡◌, ◌+◌, ◌≤◌};
 ghost use Rattle.rules.specs.Repair.{action_code, action_pane, action_tile};
 
@@ -9,7 +11,7 @@ use rules::model::{RepairAction, TileTree};
 use wire::threes::Numbers;
 
 // An action as the stored answers have it: its kind, the tile and the pane.
-#[derive(Drop)]
+#[derive(Clone, Copy)]
 struct Step {
     kind: u64,
     tile: u64,

@@ -1,4 +1,6 @@
 // The stored answers of the solver (docs/VECTORS.md), put to the library and compared bit for bit.
+#![tactic(auto)]
+
 ghost use Rattle.std.specs.Prelude.{◌≤◌, length};
 
 use libc::STDOUT_FILENO;

@@ -1,4 +1,6 @@
 // Reading the stored answers that docs/VECTORS.md describes, from a slice and a place in it. Past the end everything reads as zero.
+#![tactic(auto)]
+
 pub mod input;
 pub mod threes;
 pub mod tree;
@@ -9,7 +11,7 @@ ghost use Rattle.wire.specs.Bits.{bits_are};
 use rules::model::Reals;
 
 // A number or a real's bits, and the place after it.
-#[derive(Drop)]
+#[derive(Clone, Copy)]
 pub struct Word {
     pub value: u64,
     pub at: usize,
@@ -70,7 +72,7 @@ pub fn real(b: &[u8], at: usize) -> Word
 }
 
 // A list of reals, and the place after it.
-#[derive(Drop)]
+#[derive(Clone, Copy)]
 pub struct RealsRead {
     pub list: Reals,
     pub at: usize,

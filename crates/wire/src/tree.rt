@@ -5,35 +5,35 @@ ghost use Rattle.rules.specs.Tree.{axis_code, bar_code};
 use rules::model::{Axis, Ids, Kind, Reals, Slot, TabBarPlacement, TileId, TileTree, Tiles};
 
 // A list of numbers, and the place after it.
-#[derive(Drop)]
+#[derive(Clone, Copy)]
 pub struct IdsRead {
     pub list: Ids,
     pub at: usize,
 }
 
 // A list of tile ids, and the place after it.
-#[derive(Drop)]
+#[derive(Clone, Copy)]
 pub struct TilesRead {
     pub list: Tiles,
     pub at: usize,
 }
 
 // What stands in a slot, and the place after it.
-#[derive(Drop)]
+#[derive(Clone, Copy)]
 pub struct SlotRead {
     pub slot: Slot,
     pub at: usize,
 }
 
 // A slot's number, what stands in it, and the place after it.
-#[derive(Drop)]
+#[derive(Clone, Copy)]
 pub struct Named {
     pub which: u64,
     pub slot: Slot,
     pub at: usize,
 }
 
-#[derive(Drop)]
+#[derive(Clone, Copy)]
 pub struct TreeRead {
     pub tree: TileTree,
     pub at: usize,
