@@ -1,0 +1,9 @@
+-- `columns::pack::group_slot` fills the fields that a group uses. Assumes nothing.
+use mathlib.Core.Path.{refl}
+use Rattle.columns.specs.PackLaws.{group-made}
+use Rattle.columns.proofs.pack.group_slot.Goals as goal
+
+pub returns : goal.returns
+returns c =
+    let a = c.args in
+    group-made _ a.t1 a.row [] [] c.bar_of-bar.result c.bare_slot-s.ensures c.bar_of-bar.ensures refl refl refl

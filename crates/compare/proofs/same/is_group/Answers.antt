@@ -1,0 +1,27 @@
+-- `compare::same::is_group`: by the other slot's kind. Assumes nothing.
+use mathlib.Core.Bool.{◌&&◌}
+use mathlib.Core.Path.{sym, ap, ◌∙◌}
+use Rattle.rules.specs.declared.model.Kind.{Kind}
+use Rattle.compare.specs.Same.{tabs_to}
+use Rattle.compare.proofs.same.is_group.Goals as goal
+
+pub returns-in-Empty : goal.returns-in-Empty
+returns-in-Empty c =
+    let a = c.args in
+    sym (ap (λ (k : Kind). tabs_to a.c a.a k a.b) c.enum_told-1.given.1)
+
+pub returns-in-Pane : goal.returns-in-Pane
+returns-in-Pane c =
+    let a = c.args in
+    sym (ap (λ (k : Kind). tabs_to a.c a.a k a.b) c.enum_told-in-Pane-1.given.1)
+
+pub returns-in-Tabs : goal.returns-in-Tabs
+returns-in-Tabs c =
+    let a = c.args in
+    c.both.ensures ∙ (λ z. c.same_bar.ensures z && c.same_group.ensures z)
+    ∙ sym (ap (λ (k : Kind). tabs_to a.c a.a k a.b) c.k-1.given.1)
+
+pub returns-in-Split : goal.returns-in-Split
+returns-in-Split c =
+    let a = c.args in
+    sym (ap (λ (k : Kind). tabs_to a.c a.a k a.b) c.enum_told-in-Split-1.given.1)

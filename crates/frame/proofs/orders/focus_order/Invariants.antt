@@ -1,0 +1,11 @@
+-- `frame::orders::focus_order`: the items passed, one by one. Assumes nothing.
+use Prim.Native.Nat.{◌-◌}
+use Rattle.rules.specs.Frame.{focus_of}
+use Rattle.items.proofs.Laws.{Going}
+use Rattle.frame.proofs.orders.focus_order.Given as goal
+
+abbrev pub invariant-loop-i : goal.invariant-loop-i
+invariant-loop-i l = Going focus_of 1024 l.items l.rects l.n l.initial.at l.at l.len l.i
+
+abbrev pub decreases-loop-i : goal.decreases-loop-i
+decreases-loop-i l = l.n - l.i

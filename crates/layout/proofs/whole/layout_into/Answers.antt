@@ -1,0 +1,17 @@
+-- `layout::whole::layout_into`: the layout of the tree's columns. Assumes nothing.
+use Rattle.columns.specs.Shown.{Columned}
+use Rattle.settling.proofs.PlainLaws.{tree_plain, tree-shown}
+use Rattle.layout.proofs.WholeLaws.{lays-alike}
+use Rattle.layout.proofs.whole.layout_into.Goals as goal
+
+pub layout_columns-requires : goal.layout_columns-requires
+layout_columns-requires c =
+    let t = c.args.t in
+    let K : Columned t _ _ _ _ = record { size = c.sized.ensures; columns = c.unpack.ensures } in
+    tree_plain t _ _ _ _ K
+
+pub returns : goal.returns
+returns c =
+    let x = c.args in
+    let K : Columned x.t _ _ _ _ = record { size = c.sized.ensures; columns = c.unpack.ensures } in
+    lays-alike _ _ x.input x.items.now x.rects.now _ _ c.layout_columns.result (tree-shown x.t _ _ _ _ K) c.layout_columns.ensures

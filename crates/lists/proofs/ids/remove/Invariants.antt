@@ -1,0 +1,12 @@
+-- `lists::ids::remove` fills a fresh list. Assumes nothing.
+use Prim.Native.Nat.{◌-◌}
+use Rattle.rules.specs.Lists.{remove_at}
+use Rattle.rules.specs.Tree.{ids}
+use Rattle.lists.specs.Build.{Building}
+use Rattle.lists.proofs.ids.remove.Given as goal
+
+abbrev pub invariant-loop-j : goal.invariant-loop-j
+invariant-loop-j l = Building 0 (remove_at l.p (ids l.l)) l.n l.j l.at
+
+abbrev pub decreases-loop-j : goal.decreases-loop-j
+decreases-loop-j l = l.n - l.j

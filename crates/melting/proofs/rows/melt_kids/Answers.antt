@@ -1,0 +1,17 @@
+-- `melting::rows::melt_kids` mends the lists, and melts them in where there is room. Assumes nothing.
+use Rattle.melting.proofs.SplitLaws.{melt-over, melt-fits}
+use Rattle.melting.proofs.rows.melt_kids.Goals as goal
+
+pub returns-then-n-m-gt16 : goal.returns-then-n-m-gt16
+returns-then-n-m-gt16 c =
+    let m = c.mended-sub in
+    let a = c.args in
+    melt-over a.cs.now a.ss.now a.ms.now a.t.len a.t.moved a.given m.result a.c a.share c.requires.0 m.ensures c.if-n-m-gt16.true
+
+pub returns : goal.returns
+returns c =
+    let m = c.mended-sub in
+    let a = c.args in
+    let l = c.melt_all.new in
+    melt-fits a.cs.now a.ss.now a.ms.now a.t.len a.t.moved a.given m.result a.c a.share c.requires.0 m.ensures
+    l.0 l.1.0 l.1.1.0 c.melt_all.ensures

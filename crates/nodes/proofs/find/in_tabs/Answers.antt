@@ -1,0 +1,15 @@
+-- `nodes::find::in_tabs` hands on the place that the search found. Assumes nothing.
+use mathlib.Core.Path.{sym, ap, ◌∙◌}
+use mathlib.Core.Option.{Option}
+use Prim.Native.Nat.{ℕ}
+use Rattle.rules.specs.Target.{nowhere, tabs_have}
+use Rattle.lists.specs.Find.{place_of}
+use Rattle.nodes.proofs.find.in_tabs.Goals as goal
+
+pub returns-in-At : goal.returns-in-At
+returns-in-At c =
+    ap (λ (o : Option ℕ). tabs_have o c.args.group nowhere) (sym (ap place_of c.place-1.given.1) ∙ c.position-place.ensures)
+
+pub returns-in-Nothing : goal.returns-in-Nothing
+returns-in-Nothing c =
+    ap (λ (o : Option ℕ). tabs_have o c.args.group nowhere) (sym (ap place_of c.enum_told-1.given.1) ∙ c.position-place.ensures)

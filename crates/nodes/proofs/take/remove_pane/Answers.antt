@@ -1,0 +1,40 @@
+-- `nodes::take::remove_pane` goes by where the pane stands. Assumes nothing.
+use mathlib.Core.Path.{sym, ap, subst, ◌∙◌}
+use Prim.Native.Nat.{◌<◌}
+use lib.ListN.{length}
+use Rattle.rules.specs.Tree.{Node, panes_of, set_node}
+use Rattle.rules.specs.Insert.{remove_pane, removed_from}
+use Rattle.rules.specs.declared.model.Kind.TheVariants.{Empty}
+use Rattle.columns.specs.Columns.{nodes_from}
+use Rattle.nodes.specs.declared.PaneLocation.{PaneLocation as Location}
+use Rattle.nodes.specs.Parts.{location_of}
+use Rattle.nodes.specs.Find.{Stands}
+use Rattle.nodes.proofs.SlotLaws.{bare-view, bare-whole}
+use Rattle.nodes.proofs.take.remove_pane.Goals as goal
+
+pub set_node-requires : goal.set_node-requires
+set_node-requires c = (c.requires.0, bare-whole c.bare_slot-none.result Empty c.bare_slot-none.ensures)
+
+pub removed_from-left-requires : goal.removed_from-left-requires
+removed_from-left-requires c =
+    let x = c.args in
+    let ns = nodes_from x.heads.now x.ids.now x.shares.now x.minima.now in
+    (subst (λ (n : Node). c.l-in-InTabs-1.given.0.1.0 < length (panes_of n)) (sym c.get_node-s.ensures.0) (subst (λ (y : Location). Stands ns (location_of y)) c.l-in-InTabs-1.given.1 c.requires.1).1, c.get_node-s.ensures.1)
+
+pub returns-in-Nowhere : goal.returns-in-Nowhere
+returns-in-Nowhere c =
+    let x = c.args in
+    let ns = nodes_from x.heads.now x.ids.now x.shares.now x.minima.now in
+    (ap (λ (y : Location). remove_pane (location_of y) ns) (sym c.enum_told-1.given.1), c.requires.0)
+
+pub returns-in-Tile : goal.returns-in-Tile
+returns-in-Tile c =
+    let x = c.args in
+    let ns = nodes_from x.heads.now x.ids.now x.shares.now x.minima.now in
+    (c.set_node.ensures.0 ∙ ap (λ (n : Node). set_node c.l-1.given.0.0 n ns) (bare-view c.bare_slot-none.result Empty c.bare_slot-none.ensures) ∙ ap (λ (y : Location). remove_pane (location_of y) ns) (sym c.l-1.given.1), c.set_node.ensures.1)
+
+pub returns-in-InTabs : goal.returns-in-InTabs
+returns-in-InTabs c =
+    let x = c.args in
+    let ns = nodes_from x.heads.now x.ids.now x.shares.now x.minima.now in
+    (c.set_node-in-InTabs.ensures.0 ∙ ap (λ (n : Node). set_node c.l-in-InTabs-1.given.0.0 n ns) (c.removed_from-left.ensures.0 ∙ ap (removed_from c.l-in-InTabs-1.given.0.1.0) c.get_node-s.ensures.0) ∙ ap (λ (y : Location). remove_pane (location_of y) ns) (sym c.l-in-InTabs-1.given.1), c.set_node-in-InTabs.ensures.1)

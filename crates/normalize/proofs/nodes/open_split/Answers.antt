@@ -1,0 +1,10 @@
+-- `normalize::nodes::open_split` meets its contract, by the law `opens`. Assumes nothing.
+use Rattle.normalize.proofs.WalkLaws.{opens}
+use Rattle.normalize.proofs.nodes.open_split.Goals as goal
+
+pub returns : goal.returns
+returns c seen S =
+    let p = c.requires in
+    let x = c.args in
+    opens x.heads.now x.ids.now x.shares.now x.minima.now x.claimed.now seen x.acts.now x.c x.id
+    S p.0 p.7 p.8 p.9 p.10 p.11 c.load-row.result c.mended-rows.result c.load-row.ensures c.mended-rows.ensures c.split_noted-n.new.0 c.split_noted-n.result c.split_noted-n.ensures

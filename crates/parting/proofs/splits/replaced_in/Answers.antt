@@ -1,0 +1,8 @@
+-- `parting::splits::replaced_in` meets its contract. Assumes nothing.
+use mathlib.Core.Path.{refl}
+use Rattle.nodes.proofs.SplitLaws.{replaced-is}
+use Rattle.parting.proofs.splits.replaced_in.Goals as goal
+
+pub returns : goal.returns
+returns c =
+    replaced-is c.args.s _ refl refl refl c.requires.2 c.args.other c.args.index c.requires.1 refl refl c.replace-kids.ensures

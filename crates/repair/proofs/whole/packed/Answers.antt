@@ -1,0 +1,19 @@
+-- `repair::whole::packed` meets its contract: an accepted repair is packed and reported, a refused one is the tree given. Assumes nothing.
+use mathlib.Core.Path.{refl}
+use Rattle.repair.proofs.PackedLaws.{packs-accepted, packs-refused}
+use Rattle.repair.proofs.whole.packed.Goals as goal
+
+pub pack-slots-requires : goal.pack-slots-requires
+pack-slots-requires c =
+    let p = c.requires.plain c.enum_told-1.given.1 in
+    (p.heads, p.ids, p.shares, p.minima)
+
+pub returns-in-Accepted : goal.returns-in-Accepted
+returns-in-Accepted c =
+    let x = c.args in
+    packs-accepted x.t x.s x.heads.now x.ids.now x.shares.now x.minima.now x.acts.now _ c.enum_told-1.given.1 refl refl refl c.pack-slots.ensures c.report-actions.ensures.0
+
+pub returns-in-Refused : goal.returns-in-Refused
+returns-in-Refused c =
+    let x = c.args in
+    packs-refused x.t x.s x.heads.now x.ids.now x.shares.now x.minima.now x.acts.now c.refused.result c.answer-1.given.0.0 c.answer-1.given.1 c.refused.ensures

@@ -1,0 +1,38 @@
+-- `settling::settle::settle` meets its contract: the walk from the root, and what each of its ends is made into. Assumes nothing.
+use native.Mathlib.Omega.{arith}
+use Rattle.settling.proofs.StartLaws.{start-sized}
+use Rattle.settling.proofs.PlainLaws.{slim-heads}
+use Rattle.settling.proofs.SettleLaws.{room-left, ends-kept, ends-gone, ends-wide}
+use Rattle.settling.proofs.settle.settle.Goals as goal
+
+pub normalize_node-w-requires : goal.normalize_node-w-requires
+normalize_node-w-requires c =
+    let x = c.args in
+    let (p, whole) = c.requires in
+    (start-sized x.heads.now x.ids.now x.shares.now x.minima.now _ _ p.heads p.ids p.shares p.minima (slim-heads x.heads.now whole), omega arith)
+
+pub finish-requires : goal.finish-requires
+finish-requires c =
+    let W = c.normalize_node-w.ensures in
+    (W.sized.heads, W.sized.flags, room-left _ W.sized)
+
+pub plant-requires : goal.plant-requires
+plant-requires c =
+    let W = c.normalize_node-w.ensures in
+    (W.sized.heads, W.sized.flags, room-left _ W.sized)
+
+pub returns-in-At : goal.returns-in-At
+returns-in-At c =
+    let x = c.args in
+    let k = c.kept-1 in
+    ends-kept x.root x.heads.now x.ids.now x.shares.now x.minima.now c.requires.0 _ _ _ c.normalize_node-w.result.kept c.normalize_node-w.ensures x.spare _ _ c.finish.result k.given.0.0 k.given.1 c.finish.ensures
+
+pub returns-in-Gone : goal.returns-in-Gone
+returns-in-Gone c =
+    let x = c.args in
+    ends-gone x.root x.heads.now x.ids.now x.shares.now x.minima.now c.requires.0 _ _ _ c.normalize_node-w.result.kept c.normalize_node-w.ensures x.spare _ _ c.plant.result c.enum_told-1.given.1 c.plant.ensures
+
+pub returns-in-Wide : goal.returns-in-Wide
+returns-in-Wide c =
+    let x = c.args in
+    ends-wide x.root x.heads.now x.ids.now x.shares.now x.minima.now c.requires.0 _ _ _ c.normalize_node-w.result.kept c.normalize_node-w.ensures x.spare _ _ c.refused.result c.enum_told-in-Wide-1.given.1 c.refused.ensures

@@ -1,0 +1,44 @@
+-- `util::minima::aligned_constraints` fills a fresh list with mended minima. Assumes nothing.
+use mathlib.Core.Path.{◌≡◌, refl, sym, ap, ◌∙◌}
+use mathlib.Core.Logic.{⊎_elim}
+use native.Mathlib.Omega.{arith}
+use borrow.Author.Rules.{rules}
+use lib.ListN.{length, get_or}
+use lib.Ieee.{of_bits, nan}
+use Rattle.forest.specs.Lengths.{aligned-length}
+use Rattle.rules.specs.Numbers.{zero-f}
+use Rattle.rules.specs.Tree.{reals}
+use Rattle.rules.specs.Minima.{fix_minimum, aligned_constraints}
+use Rattle.lists.specs.Exact.{pad_to}
+use Rattle.lists.specs.Places.{get_d-used, get_d-unused}
+use Rattle.lists.specs.Build.{building-start, building-more, building-done}
+use Rattle.util.specs.Entries.{aligned_at}
+use Rattle.util.proofs.minima.aligned_constraints.Goals as goal
+
+pub loop-j-init : goal.loop-j-init
+unfolding pad_to of_bits
+loop-j-init c =
+    let a = c.args in
+    building-start zero-f (aligned_constraints a.count (reals a.t2)) _ a.count (sym (aligned-length a.count (reals a.t2))) (omega arith) refl
+
+pub loop-j-preserved : goal.loop-j-preserved
+unfolding of_bits
+loop-j-preserved c =
+    let a = c.args in
+    let l = c.loop-j in
+    let h = c.loop-j-test.true in
+    let m = a.t2 in
+    let s : length m.at ≡ 16 = search rules in
+    let x : c.if-j-minima.minimum ≡ get_or (reals m) l.j zero-f =
+    ⊎_elim
+    (λ w. w.2 ∙ get_d-used m.len m.at l.j zero-f nan w.0.taken (omega arith))
+    (λ w. w.1 ∙ get_d-unused m.len m.at l.j zero-f w.0.left)
+    c.if-j-minima.branch in
+    building-more zero-f (aligned_constraints a.count (reals m)) l.at a.count l.j c.fix_minimum.result l.invariant h
+    (c.fix_minimum.ensures ∙ ap fix_minimum x ∙ sym (aligned_at a.count (reals m) l.j h))
+
+pub returns : goal.returns
+returns c =
+    let a = c.args in
+    let l = c.loop-j in
+    building-done zero-f (aligned_constraints a.count (reals a.t2)) l.at a.count l.j l.invariant c.loop-j-test.false

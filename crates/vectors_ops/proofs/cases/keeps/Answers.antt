@@ -1,0 +1,13 @@
+-- `vectors_ops::cases::keeps`: the number that the call answered is the rule's. Assumes nothing.
+use mathlib.Core.Path.{sym, ap, ◌∙◌}
+use Rattle.rules.specs.Operations.{Applied}
+use Rattle.rules.specs.Refusals.{Told, answer_of}
+use Rattle.forest.specs.Lists.{never}
+use Rattle.vectors_ops.proofs.cases.keeps.Goals as goal
+
+pub returns-then-told-number : goal.returns-then-told-number
+returns-then-told-number c = λ e. never (sym e)
+
+pub returns : goal.returns
+returns c =
+    λ e. ap (λ (x : Applied). (answer_of x.answer).number) (sym c.apply-done.ensures.0) ∙ ap (λ (x : Told). x.number) (sym c.of_answer-told.ensures) ∙ c.if-told-number.false
