@@ -30,4 +30,4 @@ pub record Owned (l : Reals) : Type 0 where
 
 -- In a function's proof, of a Reals that is the parameter at `GOOD` of `c .. .good`: reals-owned (.. .args .NAME) GOOD.0 GOOD.1.1
 pub reals-owned : (l : Reals) (us : Valss (Struct.Declared.shape the_type).fields) → shadow (owns (Struct.Declared.shape the_type).fields (the_type.to l) us) → Owned l
-reals-owned l us p = record { long = simp length-map at p.0.1.0.1; fit = all-unmap (λ (x : Float). x) l.at (floats-fit (map (λ (x : Float). x) l.at) p.0.0 p.0.1.1) }
+reals-owned l us p = record { long = p.0.1.0.1; fit = floats-fit l.at p.0.0 p.0.1.1 }
