@@ -89,6 +89,15 @@ def turned_body(body, place, fn):
     loose = {}
     for old, new in steps.items():
         loose.setdefault(plain(old), new)
+    # What an arm of a match binds and tells, by the older record that held it.
+    by = dict(zip((p[0] for p in fn["places"]), fn["arms"]))
+    arms = {}
+    for p in reversed(chain(fn["places"], place)):
+        arm = by.get(p[0])
+        if arm:
+            for field, step, fields in arm[2]:
+                arms[(plain(step), *map(plain, fields))] = [arm[0], field]
+    variables = {plain(v): v for _, vs in fn["loops"] for v in vs}
     whole = {"c"}
     # A let that names a place stands for c.
     while True:
@@ -105,12 +114,26 @@ def turned_body(body, place, fn):
         parts = [p for p in rest.split(".")[1:]]
         while parts and parts[0] == "before":
             parts = parts[1:]
+        for n in range(len(parts), 0, -1):
+            arm = arms.get(tuple(map(plain, parts[:n])))
+            if arm:
+                return ".".join(["c"] + arm + parts[n:])
         if parts:
             name = parts[0]
             parts[0] = steps.get(name) or loose.get(plain(name)) or name
+            if len(parts) > 1 and parts[0].startswith("loop-"):
+                parts[1] = variables.get(plain(parts[1]), parts[1])
+            if len(parts) > 1 and parts[0] == "args":
+                parts[1] = fn["temporaries"].get(parts[1]) or fn["parameters"].get(plain(parts[1])) or parts[1]
         return ".".join(["c"] + parts)
 
-    return re.sub(r"(?<![\w.'-])(" + "|".join(sorted(map(re.escape, whole), key=len, reverse=True)) + r")((?:\.[^\s(){}\[\].,;:]+)*)(?![\w'-])", path, body)
+    # A let for the arguments or a loop's variables is followed too, since a parameter may have had the name of a copy.
+    for m in list(re.finditer(r"let (" + NAME + r") = (" + "|".join(map(re.escape, whole)) + r")((?:\.before)*)\.(args|loop\d*) in", body)):
+        body = re.sub(r"(?<![\w.'-])" + re.escape(m.group(1)) + r"\.([^\s(){}\[\].,;:]+)", lambda x: m.group(1) + "." + (fn["temporaries"].get(x.group(1)) or fn["parameters"].get(plain(x.group(1))) or x.group(1) if m.group(4) == "args" else variables.get(plain(x.group(1)), x.group(1))), body)
+    body = re.sub(r"(?<![\w.'-])(" + "|".join(sorted(map(re.escape, whole), key=len, reverse=True)) + r")((?:\.[^\s(){}\[\].,;:]+)*)(?![\w'-])", path, body)
+    # A test of `!x` tells of x itself.
+    body = re.sub(r"\(not-(?:true|false) [^\s()]+ (c\.if-not[^\s()]*)\)", r"\1", body)
+    return re.sub(r"not-(?:true|false) [^\s()]+ (c\.if-not[^\s()]*)", r"\1", body)
 
 
 def invariant(decl, loops, fn):
@@ -179,6 +202,11 @@ def used(imports, text):
         for item in (x.strip() for x in m.group(2).split(",")):
             last = item.split(" as ")[-1]
             parts = [p for p in last.split("◌") if p]
+            if last == "[]":
+                parts = ["[]"] if "[]" in text else []
+                if parts:
+                    keep.append(item)
+                continue
             if parts and all(p in words for p in parts):
                 keep.append(item)
         if keep:
@@ -186,9 +214,32 @@ def used(imports, text):
     return out
 
 
+def parameters(crate, module):
+    """The function's parameters and types, from its source."""
+    for folder, _, files in os.walk(f"crates/{crate}/src"):
+        for name in files:
+            with open(os.path.join(folder, name), encoding="utf-8") as f:
+                text = f.read()
+            at = os.path.relpath(os.path.join(folder, name), f"crates/{crate}/src")[:-3].replace("/", ".")
+            path = [] if at in ("lib", "main") else at.split(".")
+            if module.split(".")[:-1] != path:
+                continue
+            m = re.search(r"\bfn " + re.escape(module.split(".")[-1]) + r"\s*(?:<[^>]*>)?\(([^{}]*?)\)\s*(?:->|\n|\{)", text)
+            if m:
+                return re.findall(r"(?:mut )?(\w+): ([^,\[\]]+|[^,]*\[.*?\](?:; \d+\])*)(?:,|$|\s*$)", m.group(1).strip())
+    return []
+
+
+SCALARS = {"u8", "u16", "u32", "u64", "usize", "bool", "f64", "i32", "i64"}
+
+
 def turn(path, fn, crate, module):
     with open(path, encoding="utf-8") as f:
         text = f.read()
+    given = parameters(crate, module)
+    copies = [n for n, ty in given if not ty.startswith("&") and ty.strip() not in SCALARS and not re.search(r"\b(?:a|args)\." + n + r"(?![\w'-])", text)]
+    fn["temporaries"] = {f"t{i + 1}": n for i, n in enumerate(copies)}
+    fn["parameters"] = {plain(n): n for n, _ in given}
     decls, tail = declarations(text)
     if not any("tie.close" in "".join(t for _, t in d[4]) for d in decls):
         raise Left("no tie.close")
@@ -212,7 +263,7 @@ def turn(path, fn, crate, module):
             continue
         if m:
             old = re.search(r"tie\.Need-(\S+)", sig).group(1)
-            found = needs.get(plain(old))
+            found = needs.get(plain(old)) or needs.get(plain(old).replace("bounds-", "index-"))
             if not found:
                 # A goal that is no longer asked, or has another old name.
                 if not unfolding and len(equations) == 1 and equations[0][1].partition(" =")[2].strip() in ("search rules", "omega arith"):
@@ -241,6 +292,80 @@ def turn(path, fn, crate, module):
     os.remove(path)
 
 
+def turn_cycle(path, known, crate, module):
+    """The proof of functions that call one another, or of one that calls itself: each answer takes the measure t."""
+    with open(path, encoding="utf-8") as f:
+        text = f.read()
+    decls, tail = declarations(text)
+    imports = [d[2] for d in decls if d[0] == "use"]
+    top = next((d[1] for d in decls if d[0] == "use"), [])
+    imports = [i for i in imports if not re.search(r"\.(Statement|Tie|Reads|Kinds|Lts|Lts-\w+|\{statement\})\b|borrow\.Fn\.|\.\{statement\}$| as \S+-(?:reads|kinds|lts)$", i)]
+    stem = f"Rattle-{crate}-proofs.{module}.Lts-"
+    members = {k[len(stem) :]: v for k, v in known.items() if k.startswith(stem)}
+    if not members:
+        raise Left("no names for it")
+    folder = module.rsplit(".", 1)[0]
+    for name, fn in members.items():
+        given = parameters(crate, folder + "." + name)
+        fn["given"] = [n for n, _ in given]
+        fn["temporaries"] = {}
+        fn["parameters"] = {plain(n): n for n in fn["given"]}
+        fn["goals"] = {}
+        for (old, new), (asked, _) in zip(fn["needs"], fn["asked_at"]):
+            fn["goals"].setdefault(plain(old), []).append((new, asked))
+    alone = len(members) == 1
+    prefix = lambda name: "" if alone else name + "-"
+    invariants, answers = [], []
+    for name, comments, sig, unfolding, equations in decls:
+        if name == "use" or " close " in " ".join(t for _, t in equations):
+            continue
+        if re.search(r": ℕ → In \d+ ", sig):
+            continue
+        m = re.search(r": Measures \d+ (\S+)-kinds\.ps ℕ$", sig)
+        if m:
+            fn_name = next(n for n in members if plain(n) == plain(m.group(1)))
+            body = equations[0][1].partition(" =")[2]
+            given = members[fn_name]["given"]
+            body = re.sub(r"\ba((?:\.1)*)\.0", lambda x: "l." + given[len(x.group(1)) // 2], body)
+            invariants.append("\n".join(comments + [f"abbrev pub decreases-{fn_name} : goal.decreases-{fn_name}", f"decreases-{fn_name} l ={body}"]))
+            continue
+        m = re.search(r": (\S+)-lts\.(invariant|decreases)-(\S+)$", sig)
+        if m:
+            fn_name = next(n for n in members if plain(n) == plain(m.group(1)))
+            as_tie = [name, comments, f"{name} : tie.{m.group(2)}-{m.group(3)}", unfolding, equations]
+            got = invariant(as_tie, members[fn_name]["loops"], members[fn_name])
+            invariants.append(re.sub(r"(invariant|decreases)-(?=loop)", lambda x: x.group(1) + "-" + prefix(fn_name), got) if not alone else got)
+            continue
+        m = re.search(r"→ (\S+)-lts\.Need-(\S+)", sig)
+        if m:
+            fn_name = next(n for n in members if plain(n) == plain(m.group(1)))
+            fn = members[fn_name]
+            # The kit's scripts respelled some of the older names.
+            found = fn["goals"].get(plain(m.group(2))) or fn["goals"].get(plain(m.group(2)).replace("bounds-", "index-"))
+            head, _, body = equations[0][1].partition(" =")
+            args = [a for a in head.split()[1:] if a != "κs"]
+            if not unfolding and body.strip() in ("search rules", "omega arith"):
+                continue
+            if not found:
+                raise Left(f"no goal {m.group(2)} of {fn_name}; there are {sorted(fn['goals'])}")
+            if args[:2] != ["t", "c"]:
+                raise Left(f"{name} takes {args}")
+            new, place = found[0]
+            new = prefix(fn_name) + new
+            answers.append("\n".join(comments + [f"pub {new} : goal.{new}"] + unfolding + [f"{new} {' '.join(args)} ={turned_body(body, place, fn)}"]))
+            continue
+        keep = comments + [sig] + unfolding
+        for more, t in equations:
+            keep += more + [t]
+        answers.append("\n".join(keep))
+    where = os.path.dirname(path)
+    body = "\n\n".join(invariants)
+    write(os.path.join(where, "Invariants.antt"), top, used(imports, body) + [f"use Rattle.{crate}.proofs.{module}.Given as goal"], body)
+    body = "\n\n".join(answers)
+    write(os.path.join(where, "Answers.antt"), top, used(imports, body) + [f"use Rattle.{crate}.proofs.{module}.Goals as goal"], body)
+    os.remove(path)
+
+
 def write(path, top, imports, body):
     with open(path, "w", encoding="utf-8") as f:
         f.write("\n".join(top + imports) + "\n\n" + body.rstrip("\n") + "\n")
@@ -259,6 +384,10 @@ def main(argv):
             fn = known.get(f"Rattle-{crate}-proofs.{module}.Lts")
             path = os.path.join(folder, "Proof.antt")
             try:
+                if "+" in module:
+                    turn_cycle(path, known, crate, module)
+                    turned += 1
+                    continue
                 if fn is None:
                     raise Left("no names for it")
                 turn(path, fn, crate, module)

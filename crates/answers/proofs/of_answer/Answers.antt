@@ -4,7 +4,7 @@ use Rattle.rules.specs.Refusals.{answer_of}
 use Rattle.answers.proofs.of_answer.Goals as goal
 
 pub returns-in-Accepted : goal.returns-in-Accepted
-returns-in-Accepted c = ap answer_of (sym c.enum_told-1.given.1)
+returns-in-Accepted c = ap answer_of (sym c.in-Accepted.is)
 
 pub returns-in-Refused : goal.returns-in-Refused
-returns-in-Refused c = c.of_refusal.ensures ∙ ap answer_of (sym c.a-1.given.1)
+returns-in-Refused c = c.of_refusal.ensures ∙ ap answer_of (sym c.in-Refused.is)

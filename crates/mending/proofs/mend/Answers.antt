@@ -1,5 +1,5 @@
 -- `mending::mend` meets its contract, by what the repair of the columns came to. Assumes nothing.
-use mathlib.Core.List.{◌∷◌}
+use mathlib.Core.List.{[], ◌∷◌}
 use Rattle.columns.specs.Shown.{arena_from}
 use Rattle.coding.specs.Lent.{lot}
 use Rattle.crossing.proofs.TidyLaws.{tidy-lent, tidy-plain}

@@ -1,5 +1,6 @@
 -- `solve_lent` meets its contract, test by test. Assumes nothing.
 use mathlib.Core.Path.{◌≡◌, sym, ap, ◌∙◌, subst}
+use mathlib.Core.List.{[]}
 use Prim.Native.Nat.{ℕ, ◌<◌}
 use native.Mathlib.Omega.{arith}
 use lib.ListN.{length, take, replicate}
@@ -42,7 +43,7 @@ returns-then-total-min_total c =
     let ms = take n a.minima.now in
     let ls : length ss ≡ n = length-take-le n a.shares.now (omega (arith, c.requires.0, c.requires.1)) in
     let some : 0 < length ss = omega (arith, ls, c.if-n-eq0.false) in
-    shows _ (tight a.total a.min-total ms) n 0 (solve_lengths_with_min a.total ss ms) c.tight.ensures (solve-tight a.total ss ms some a.min-total c.requires.4 c.if-total.false c.if-total-min_total.true)
+    shows _ (tight a.total a.min_total ms) n 0 (solve_lengths_with_min a.total ss ms) c.tight.ensures (solve-tight a.total ss ms some a.min_total c.requires.4 c.if-total.false c.if-total-min_total.true)
 
 pub returns : goal.returns
 unfolding of_bits
@@ -53,4 +54,4 @@ returns c =
     let ms = take n a.minima.now in
     let ls : length ss ≡ n = length-take-le n a.shares.now (omega (arith, c.requires.0, c.requires.1)) in
     let some : 0 < length ss = omega (arith, ls, c.if-n-eq0.false) in
-    shows-as (solve-loose a.total ss ms some a.min-total c.requires.4 c.if-total.false c.if-total-min_total.false) c.loose.ensures
+    shows-as (solve-loose a.total ss ms some a.min_total c.requires.4 c.if-total.false c.if-total-min_total.false) c.loose.ensures

@@ -1,7 +1,6 @@
 -- `tiling_c::tiling_apply`: codes that are none, or what the change of the columns came to. Assumes nothing.
 use mathlib.Core.Path.{◌≡◌, sym, ap, ◌∙◌}
 use mathlib.Core.Bool.{Bool, true, false, ◌&&◌}
-use borrow.Author.Tests.{not-true, not-false}
 use Rattle.coding.specs.Lent.{lot, lot_ok, op_ok}
 use Rattle.crossing.proofs.TidyLaws.{tidy-lent, tidy-plain}
 use Rattle.tiling_c.proofs.CallLaws.{applies-bad, applies-good}
@@ -10,13 +9,13 @@ use Rattle.tiling_c.proofs.tiling_apply.Goals as goal
 pub returns-then-not-codes_ok : goal.returns-then-not-codes_ok
 returns-then-not-codes_ok c =
     let a = c.args in
-    applies-bad (lot a.top.now a.heads.now a.ids.now a.shares.now a.minima.now) a.words.now a.fraction a.out.now (ap (λ (b : Bool). b && op_ok a.words.now) (sym c.codes_ok.ensures ∙ not-true c.codes_ok.result c.if-not-codes_ok.true))
+    applies-bad (lot a.top.now a.heads.now a.ids.now a.shares.now a.minima.now) a.words.now a.fraction a.out.now (ap (λ (b : Bool). b && op_ok a.words.now) (sym c.codes_ok.ensures ∙ c.if-not-codes_ok.true))
 
 pub returns-then-not-op_ok : goal.returns-then-not-op_ok
 returns-then-not-op_ok c =
     let a = c.args in
-    let g : lot_ok (lot a.top.now a.heads.now a.ids.now a.shares.now a.minima.now) ≡ true = sym c.codes_ok.ensures ∙ not-false c.codes_ok.result c.if-not-codes_ok.false in
-    let h : op_ok a.words.now ≡ false = sym c.op_ok.ensures ∙ not-true c.op_ok.result c.if-not-op_ok.true in
+    let g : lot_ok (lot a.top.now a.heads.now a.ids.now a.shares.now a.minima.now) ≡ true = sym c.codes_ok.ensures ∙ c.if-not-codes_ok.false in
+    let h : op_ok a.words.now ≡ false = sym c.op_ok.ensures ∙ c.if-not-op_ok.true in
     applies-bad (lot a.top.now a.heads.now a.ids.now a.shares.now a.minima.now) a.words.now a.fraction a.out.now (λ z. g z && h z)
 
 pub apply_columns-d-requires : goal.apply_columns-d-requires
@@ -27,7 +26,7 @@ apply_columns-d-requires c =
 pub returns : goal.returns
 returns c =
     let a = c.args in
-    let g : lot_ok (lot a.top.now a.heads.now a.ids.now a.shares.now a.minima.now) ≡ true = sym c.codes_ok.ensures ∙ not-false c.codes_ok.result c.if-not-codes_ok.false in
-    let h : op_ok a.words.now ≡ true = sym c.op_ok.ensures ∙ not-false c.op_ok.result c.if-not-op_ok.false in
+    let g : lot_ok (lot a.top.now a.heads.now a.ids.now a.shares.now a.minima.now) ≡ true = sym c.codes_ok.ensures ∙ c.if-not-codes_ok.false in
+    let h : op_ok a.words.now ≡ true = sym c.op_ok.ensures ∙ c.if-not-op_ok.false in
     applies-good (lot a.top.now a.heads.now a.ids.now a.shares.now a.minima.now) a.words.now a.fraction a.out.now _ c.op_of-op.result _ _ _ _ c.apply_columns-d.result _ _ c.tell-n.result (λ c. g c && h c)
     (tidy-lent a.heads.now _ a.ids.now a.shares.now a.minima.now c.tidy_lent.ensures a.top.now) c.op_of-op.ensures c.apply_columns-d.ensures.0 c.tell-n.ensures c.keep_columns.ensures

@@ -1,7 +1,6 @@
 -- `tiling_c::tiling_is_sound`: 5 for codes that are none, else 0 or 4. Assumes nothing.
 use mathlib.Core.Path.{refl, sym, ◌∙◌}
 use lib.ListN.{get_or}
-use borrow.Author.Tests.{not-true, not-false}
 use Rattle.coding.specs.Lent.{lot, lent, codes_ok}
 use Rattle.rules.specs.Sound.{sound}
 use Rattle.tiling_c.proofs.CallLaws.{sound-bad, sound-is}
@@ -11,7 +10,7 @@ use Rattle.tiling_c.proofs.tiling_is_sound.Goals as goal
 pub returns-then-not-codes_ok : goal.returns-then-not-codes_ok
 returns-then-not-codes_ok c =
     let a = c.args in
-    sound-bad (codes_ok a.heads.now) (sound (lent (lot a.top.now a.heads.now a.ids.now a.shares.now a.minima.now))) (sym c.codes_ok.ensures ∙ not-true c.codes_ok.result c.if-not-codes_ok.true)
+    sound-bad (codes_ok a.heads.now) (sound (lent (lot a.top.now a.heads.now a.ids.now a.shares.now a.minima.now))) (sym c.codes_ok.ensures ∙ c.if-not-codes_ok.true)
 
 pub sound_number-requires : goal.sound_number-requires
 sound_number-requires c =
@@ -21,7 +20,7 @@ sound_number-requires c =
 pub returns-then-heads_over : goal.returns-then-heads_over
 returns-then-heads_over c =
     let a = c.args in
-    sound-is (lot a.top.now a.heads.now a.ids.now a.shares.now a.minima.now) (lent (lot a.top.now c.tidy-plain.result a.ids.now a.shares.now a.minima.now)) c.sound_number.result (sym c.codes_ok.ensures ∙ not-false c.codes_ok.result c.if-not-codes_ok.false)
+    sound-is (lot a.top.now a.heads.now a.ids.now a.shares.now a.minima.now) (lent (lot a.top.now c.tidy-plain.result a.ids.now a.shares.now a.minima.now)) c.sound_number.result (sym c.codes_ok.ensures ∙ c.if-not-codes_ok.false)
     (tidy-lent a.heads.now c.tidy-plain.result a.ids.now a.shares.now a.minima.now c.tidy-plain.ensures a.top.now) (c.sound_number.ensures (get_or a.top.now 1 0))
 
 pub sound_number-requires-2 : goal.sound_number-requires-2
@@ -32,4 +31,4 @@ sound_number-requires-2 c =
 pub returns : goal.returns
 returns c =
     let a = c.args in
-    sound-is (lot a.top.now a.heads.now a.ids.now a.shares.now a.minima.now) (lent (lot a.top.now a.heads.now a.ids.now a.shares.now a.minima.now)) c.sound_number-2.result (sym c.codes_ok.ensures ∙ not-false c.codes_ok.result c.if-not-codes_ok.false) refl (c.sound_number-2.ensures (get_or a.top.now 1 0))
+    sound-is (lot a.top.now a.heads.now a.ids.now a.shares.now a.minima.now) (lent (lot a.top.now a.heads.now a.ids.now a.shares.now a.minima.now)) c.sound_number-2.result (sym c.codes_ok.ensures ∙ c.if-not-codes_ok.false) refl (c.sound_number-2.ensures (get_or a.top.now 1 0))

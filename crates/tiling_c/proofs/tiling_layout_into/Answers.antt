@@ -1,6 +1,5 @@
 -- `tiling_c::tiling_layout_into`: codes that are none, or what the layout answered. Assumes nothing.
 use mathlib.Core.Path.{refl, sym, ◌∙◌}
-use borrow.Author.Tests.{not-true, not-false}
 use Rattle.coding.specs.Lent.{lot, lent}
 use Rattle.tiling_c.proofs.CallLaws.{lays-bad, lays-good}
 use Rattle.crossing.proofs.TidyLaws.{tidy-none, tidy-lent, tidy-plain}
@@ -9,7 +8,7 @@ use Rattle.tiling_c.proofs.tiling_layout_into.Goals as goal
 pub returns-then-not-codes_ok : goal.returns-then-not-codes_ok
 returns-then-not-codes_ok c =
     let a = c.args in
-    lays-bad (lot a.top.now a.heads.now a.ids.now a.shares.now a.minima.now) a.input.now a.items.now a.rects.now a.out.now (sym c.codes_ok.ensures ∙ not-true c.codes_ok.result c.if-not-codes_ok.true)
+    lays-bad (lot a.top.now a.heads.now a.ids.now a.shares.now a.minima.now) a.input.now a.items.now a.rects.now a.out.now (sym c.codes_ok.ensures ∙ c.if-not-codes_ok.true)
 
 pub lay-requires : goal.lay-requires
 lay-requires c =
@@ -20,7 +19,7 @@ pub returns-then-heads_over : goal.returns-then-heads_over
 returns-then-heads_over c =
     let a = c.args in
     lays-good (lot a.top.now a.heads.now a.ids.now a.shares.now a.minima.now) a.input.now a.items.now a.rects.now a.out.now (lent (lot a.top.now c.tidy-plain.result a.ids.now a.shares.now a.minima.now)) c.input_of-given.result _ _ _ c.lay.result
-    (sym c.codes_ok.ensures ∙ not-false c.codes_ok.result c.if-not-codes_ok.false) (tidy-lent a.heads.now c.tidy-plain.result a.ids.now a.shares.now a.minima.now c.tidy-plain.ensures a.top.now) c.input_of-given.ensures c.lay.ensures
+    (sym c.codes_ok.ensures ∙ c.if-not-codes_ok.false) (tidy-lent a.heads.now c.tidy-plain.result a.ids.now a.shares.now a.minima.now c.tidy-plain.ensures a.top.now) c.input_of-given.ensures c.lay.ensures
 
 pub lay-requires-2 : goal.lay-requires-2
 lay-requires-2 c =
@@ -31,4 +30,4 @@ pub returns : goal.returns
 returns c =
     let a = c.args in
     lays-good (lot a.top.now a.heads.now a.ids.now a.shares.now a.minima.now) a.input.now a.items.now a.rects.now a.out.now (lent (lot a.top.now a.heads.now a.ids.now a.shares.now a.minima.now)) c.input_of-given.result _ _ _ c.lay-2.result
-    (sym c.codes_ok.ensures ∙ not-false c.codes_ok.result c.if-not-codes_ok.false) refl c.input_of-given.ensures c.lay-2.ensures
+    (sym c.codes_ok.ensures ∙ c.if-not-codes_ok.false) refl c.input_of-given.ensures c.lay-2.ensures

@@ -1,7 +1,6 @@
 -- `tiling_c::tiling_repair`: codes that are none, or what the repair of the columns came to. Assumes nothing.
 use mathlib.Core.Path.{sym, ◌∙◌}
 use lib.ListN.{get_or}
-use borrow.Author.Tests.{not-true, not-false}
 use Rattle.coding.specs.Lent.{lot}
 use Rattle.crossing.proofs.TidyLaws.{tidy-lent, tidy-plain}
 use Rattle.tiling_c.proofs.CallLaws.{repairs-bad, repairs-good}
@@ -10,7 +9,7 @@ use Rattle.tiling_c.proofs.tiling_repair.Goals as goal
 pub returns-then-not-codes_ok : goal.returns-then-not-codes_ok
 returns-then-not-codes_ok c =
     let a = c.args in
-    repairs-bad (lot a.top.now a.heads.now a.ids.now a.shares.now a.minima.now) a.acts.now a.out.now (sym c.codes_ok.ensures ∙ not-true c.codes_ok.result c.if-not-codes_ok.true)
+    repairs-bad (lot a.top.now a.heads.now a.ids.now a.shares.now a.minima.now) a.acts.now a.out.now (sym c.codes_ok.ensures ∙ c.if-not-codes_ok.true)
 
 pub repair_columns-d-requires : goal.repair_columns-d-requires
 repair_columns-d-requires c =
@@ -24,5 +23,5 @@ pub returns : goal.returns
 returns c =
     let a = c.args in
     repairs-good (lot a.top.now a.heads.now a.ids.now a.shares.now a.minima.now) a.acts.now a.out.now _ _ _ _ _ _ c.repair_columns-d.result _ _ _ c.tell-n.result
-    (sym c.codes_ok.ensures ∙ not-false c.codes_ok.result c.if-not-codes_ok.false) (tidy-lent a.heads.now _ a.ids.now a.shares.now a.minima.now c.tidy_lent.ensures a.top.now)
+    (sym c.codes_ok.ensures ∙ c.if-not-codes_ok.false) (tidy-lent a.heads.now _ a.ids.now a.shares.now a.minima.now c.tidy_lent.ensures a.top.now)
     (c.repair_columns-d.ensures.right (get_or a.top.now 1 0)) c.write.ensures c.tell-n.ensures c.keep_columns.ensures

@@ -11,19 +11,19 @@ as-numbers e =
     (ap (λ (x : RepairAction). action_code x + 1) (sym e), ap (λ (x : RepairAction). (action_tile x).slot) (sym e), ap action_pane (sym e))
 
 pub returns-in-RemovedInvalidNode : goal.returns-in-RemovedInvalidNode
-returns-in-RemovedInvalidNode c = as-numbers c.a-1.given.1
+returns-in-RemovedInvalidNode c = as-numbers c.in-RemovedInvalidNode.is
 
 pub returns-in-RepairedActiveTab : goal.returns-in-RepairedActiveTab
-returns-in-RepairedActiveTab c = as-numbers c.a-in-RepairedActiveTab-1.given.1
+returns-in-RepairedActiveTab c = as-numbers c.in-RepairedActiveTab.is
 
 pub returns-in-RepairedShares : goal.returns-in-RepairedShares
-returns-in-RepairedShares c = as-numbers c.a-in-RepairedShares-1.given.1
+returns-in-RepairedShares c = as-numbers c.in-RepairedShares.is
 
 pub returns-in-RepairedConstraints : goal.returns-in-RepairedConstraints
-returns-in-RepairedConstraints c = as-numbers c.a-in-RepairedConstraints-1.given.1
+returns-in-RepairedConstraints c = as-numbers c.in-RepairedConstraints.is
 
 pub returns-in-CollapsedSplit : goal.returns-in-CollapsedSplit
-returns-in-CollapsedSplit c = as-numbers c.a-in-CollapsedSplit-1.given.1
+returns-in-CollapsedSplit c = as-numbers c.in-CollapsedSplit.is
 
 pub returns-in-RemovedDuplicatePane : goal.returns-in-RemovedDuplicatePane
-returns-in-RemovedDuplicatePane c = as-numbers c.a-in-RemovedDuplicatePane-1.given.1
+returns-in-RemovedDuplicatePane c = as-numbers c.in-RemovedDuplicatePane.is

@@ -9,7 +9,7 @@ pub returns-in-Hidden : goal.returns-in-Hidden
 unfolding split_tab_bar
 returns-in-Hidden c =
     let a = c.args in
-    c.no_bar.ensures ∙ sym (ap (λ (p : TabBarPlacement). split_tab_bar a.rect p a.thickness) c.enum_told-1.given.1)
+    c.no_bar.ensures ∙ sym (ap (λ (p : TabBarPlacement). split_tab_bar a.rect p a.thickness) c.in-Hidden.is)
 
 pub returns-in-Top : goal.returns-in-Top
 unfolding split_tab_bar
@@ -17,7 +17,7 @@ returns-in-Top c =
     let a = c.args in
     c.top_bar.ensures
     ∙ ap (top_bar a.rect) (c.cut.ensures ∙ ap (smaller a.thickness) c.height.ensures)
-    ∙ sym (ap (λ (p : TabBarPlacement). split_tab_bar a.rect p a.thickness) c.enum_told-in-Top-1.given.1)
+    ∙ sym (ap (λ (p : TabBarPlacement). split_tab_bar a.rect p a.thickness) c.in-Top.is)
 
 pub returns-in-Bottom : goal.returns-in-Bottom
 unfolding split_tab_bar
@@ -25,7 +25,7 @@ returns-in-Bottom c =
     let a = c.args in
     c.bottom_bar.ensures
     ∙ ap (bottom_bar a.rect) (c.cut-in-Bottom.ensures ∙ ap (smaller a.thickness) c.height-in-Bottom.ensures)
-    ∙ sym (ap (λ (p : TabBarPlacement). split_tab_bar a.rect p a.thickness) c.enum_told-in-Bottom-1.given.1)
+    ∙ sym (ap (λ (p : TabBarPlacement). split_tab_bar a.rect p a.thickness) c.in-Bottom.is)
 
 pub returns-in-Left : goal.returns-in-Left
 unfolding split_tab_bar
@@ -33,7 +33,7 @@ returns-in-Left c =
     let a = c.args in
     c.left_bar.ensures
     ∙ ap (left_bar a.rect) (c.cut-in-Left.ensures ∙ ap (smaller a.thickness) c.width.ensures)
-    ∙ sym (ap (λ (p : TabBarPlacement). split_tab_bar a.rect p a.thickness) c.enum_told-in-Left-1.given.1)
+    ∙ sym (ap (λ (p : TabBarPlacement). split_tab_bar a.rect p a.thickness) c.in-Left.is)
 
 pub returns-in-Right : goal.returns-in-Right
 unfolding split_tab_bar
@@ -41,4 +41,4 @@ returns-in-Right c =
     let a = c.args in
     c.right_bar.ensures
     ∙ ap (right_bar a.rect) (c.cut-in-Right.ensures ∙ ap (smaller a.thickness) c.width-in-Right.ensures)
-    ∙ sym (ap (λ (p : TabBarPlacement). split_tab_bar a.rect p a.thickness) c.enum_told-in-Right-1.given.1)
+    ∙ sym (ap (λ (p : TabBarPlacement). split_tab_bar a.rect p a.thickness) c.in-Right.is)

@@ -7,24 +7,24 @@ use Rattle.bars.proofs.tabs.tab_rect.Goals as goal
 pub returns-in-Hidden : goal.returns-in-Hidden
 returns-in-Hidden c =
     let a = c.args in
-    c.tab_across.ensures ∙ sym (ap (λ (p : TabBarPlacement). tab_rect p a.rect a.count a.index) c.enum_told-1.given.1)
+    c.tab_across.ensures ∙ sym (ap (λ (p : TabBarPlacement). tab_rect p a.rect a.count a.index) c.in-Hidden.is)
 
 pub returns-in-Top : goal.returns-in-Top
 returns-in-Top c =
     let a = c.args in
-    c.tab_across-in-Top.ensures ∙ sym (ap (λ (p : TabBarPlacement). tab_rect p a.rect a.count a.index) c.enum_told-in-Top-1.given.1)
+    c.tab_across-in-Top.ensures ∙ sym (ap (λ (p : TabBarPlacement). tab_rect p a.rect a.count a.index) c.in-Top.is)
 
 pub returns-in-Bottom : goal.returns-in-Bottom
 returns-in-Bottom c =
     let a = c.args in
-    c.tab_across-in-Bottom.ensures ∙ sym (ap (λ (p : TabBarPlacement). tab_rect p a.rect a.count a.index) c.enum_told-in-Bottom-1.given.1)
+    c.tab_across-in-Bottom.ensures ∙ sym (ap (λ (p : TabBarPlacement). tab_rect p a.rect a.count a.index) c.in-Bottom.is)
 
 pub returns-in-Left : goal.returns-in-Left
 returns-in-Left c =
     let a = c.args in
-    c.tab_down.ensures ∙ sym (ap (λ (p : TabBarPlacement). tab_rect p a.rect a.count a.index) c.enum_told-in-Left-1.given.1)
+    c.tab_down.ensures ∙ sym (ap (λ (p : TabBarPlacement). tab_rect p a.rect a.count a.index) c.in-Left.is)
 
 pub returns-in-Right : goal.returns-in-Right
 returns-in-Right c =
     let a = c.args in
-    c.tab_down-in-Right.ensures ∙ sym (ap (λ (p : TabBarPlacement). tab_rect p a.rect a.count a.index) c.enum_told-in-Right-1.given.1)
+    c.tab_down-in-Right.ensures ∙ sym (ap (λ (p : TabBarPlacement). tab_rect p a.rect a.count a.index) c.in-Right.is)

@@ -16,7 +16,7 @@ pane_at-requires c =
     let p = c.args.p in
     let s = c.args.s in
     let m = c.args.m in
-    let e = c.enum_told-1.given.1 in
+    let e = c.in-Pane.is in
     let rm = subst (λ (r : TableRow). Room t (row_is r) p s m) (e) c.requires.1 in
     (c.requires.0, first-room c.args.p rm.panes)
 
@@ -26,14 +26,14 @@ tabs_slot-requires c =
     let p = c.args.p in
     let s = c.args.s in
     let m = c.args.m in
-    let e = c.row-1.given.1 in
+    let e = c.in-Tabs.is in
     let rm = subst (λ (r : TableRow). Room t (row_is r) p s m) (e) c.requires.1 in
     let ft = subst (λ (r : TableRow). Fit (row_is r)) (e) c.requires.2 in
     (c.requires.0, rm.panes, ft.panes)
 
 pub children_of-c-requires : goal.children_of-c-requires
 children_of-c-requires c =
-    let e = c.row-in-Split-1.given.1 in
+    let e = c.in-Split.is in
     let ft = subst (λ (r : TableRow). Fit (row_is r)) (e) c.requires.2 in
     (c.requires.3, c.requires.4, ft.children)
 
@@ -43,7 +43,7 @@ reals_of-ss-requires c =
     let p = c.args.p in
     let s = c.args.s in
     let m = c.args.m in
-    let e = c.row-in-Split-1.given.1 in
+    let e = c.in-Split.is in
     let rm = subst (λ (r : TableRow). Room t (row_is r) p s m) (e) c.requires.1 in
     let ft = subst (λ (r : TableRow). Fit (row_is r)) (e) c.requires.2 in
     (c.requires.0.shares, rm.shares, ft.shares)
@@ -73,7 +73,7 @@ returns-in-Pane c =
     let table = table_of bytes t in
     let s = c.args.s in
     let m = c.args.m in
-    let e = c.enum_told-1.given.1 in
+    let e = c.in-Pane.is in
     let to = ap (λ (r : TableRow). row_node k i (row_is r) (left_at table p s m)) (sym (e)) in
     subst (λ (n : Node). SlotIs c.pane_slot.result n) (ap pane (c.pane_at.ensures ∙ first-of (panes_at bytes t) p) ∙ to) c.pane_slot.ensures
 
@@ -87,7 +87,7 @@ returns-in-Tabs c =
     let p = c.args.p in
     let s = c.args.s in
     let m = c.args.m in
-    let e = c.row-1.given.1 in
+    let e = c.in-Tabs.is in
     let to = ap (λ (r : TableRow). row_node k i (row_is r) (left_at table p s m)) (sym (e)) in
     subst (λ (n : Node). SlotIs c.tabs_slot.result n) (to) c.tabs_slot.ensures
 

@@ -1,5 +1,5 @@
 -- `calm::lists::lists_calm`: the three tests, one by one. Assumes nothing.
-use borrow.Author.Tests.{not-true, not-false}
+use mathlib.Core.List.{[]}
 use lib.ListN.{take, get_or}
 use Rattle.calm.proofs.ListLaws.{few-children, shares-fail, minima-tell}
 use Rattle.calm.proofs.lists.lists_calm.Goals as goal
@@ -18,7 +18,7 @@ returns-then-not-shares_calm c =
     let h = get_or a.heads.now a.i [] in
     let ss = take (get_or h 5 0) (get_or a.shares.now a.i []) in
     let ms = take (get_or h 6 0) (get_or a.minima.now a.i []) in
-    shares-fail (get_or h 4 0) ss ms c.if-count-lt2.false c.shares_calm.result c.shares_calm.ensures (not-true c.shares_calm.result c.if-not-shares_calm.true)
+    shares-fail (get_or h 4 0) ss ms c.if-count-lt2.false c.shares_calm.result c.shares_calm.ensures c.if-not-shares_calm.true
 
 pub returns : goal.returns
 returns c =
@@ -26,4 +26,4 @@ returns c =
     let h = get_or a.heads.now a.i [] in
     let ss = take (get_or h 5 0) (get_or a.shares.now a.i []) in
     let ms = take (get_or h 6 0) (get_or a.minima.now a.i []) in
-    minima-tell (get_or h 4 0) ss ms c.if-count-lt2.false c.shares_calm.result c.shares_calm.ensures (not-false c.shares_calm.result c.if-not-shares_calm.false) c.minima_calm.result c.minima_calm.ensures
+    minima-tell (get_or h 4 0) ss ms c.if-count-lt2.false c.shares_calm.result c.shares_calm.ensures c.if-not-shares_calm.false c.minima_calm.result c.minima_calm.ensures

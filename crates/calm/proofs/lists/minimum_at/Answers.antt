@@ -1,5 +1,6 @@
 -- `calm::lists::minimum_at` is the entry of the list, zero past its end. Assumes nothing.
 use mathlib.Core.Path.{sym}
+use mathlib.Core.List.{[]}
 use native.Mathlib.Omega.{arith}
 use lib.ListN.{take, get_or, length-take, get_or-eq_default}
 use lib.Ieee.{nan, of_bits}

@@ -1,5 +1,6 @@
 -- `calm::nodes::melts_in` is the rule's `melts`, of the child's slot. Assumes nothing.
 use mathlib.Core.Path.{sym, ap, ◌∙◌}
+use mathlib.Core.List.{[]}
 use lib.ListN.{get_or}
 use Rattle.rules.specs.Repair.{melts}
 use Rattle.columns.specs.Columns.{axis_from}

@@ -11,17 +11,17 @@ use Rattle.changing.proofs.operations.activate_pane.Goals as goal
 pub returns-in-Nowhere : goal.returns-in-Nowhere
 returns-in-Nowhere c =
     let x = c.args in
-    record { even = c.requires.0; steps = λ v. refused_as (arena_from x.root v x.heads.now x.ids.now x.shares.now x.minima.now) (Rule.activate_pane (arena_from x.root v x.heads.now x.ids.now x.shares.now x.minima.now) x.pane) InvalidPaneId (located-step (arena_from x.root v x.heads.now x.ids.now x.shares.now x.minima.now) c.requires.1 x.pane (location_of c.find_pane-l.result) (c.find_pane-l.ensures x.shares.now x.minima.now c.requires.0.shares c.requires.0.minima) (λ (m : PaneLocation). Rule.activate_at m (arena_from x.root v x.heads.now x.ids.now x.shares.now x.minima.now)) _ (ap location_of c.enum_told-1.given.1)) }
+    record { even = c.requires.0; steps = λ v. refused_as (arena_from x.root v x.heads.now x.ids.now x.shares.now x.minima.now) (Rule.activate_pane (arena_from x.root v x.heads.now x.ids.now x.shares.now x.minima.now) x.pane) InvalidPaneId (located-step (arena_from x.root v x.heads.now x.ids.now x.shares.now x.minima.now) c.requires.1 x.pane (location_of c.find_pane-l.result) (c.find_pane-l.ensures x.shares.now x.minima.now c.requires.0.shares c.requires.0.minima) (λ (m : PaneLocation). Rule.activate_at m (arena_from x.root v x.heads.now x.ids.now x.shares.now x.minima.now)) _ (ap location_of c.in-Nowhere.is)) }
 
 pub returns-in-Tile : goal.returns-in-Tile
 returns-in-Tile c =
     let x = c.args in
-    record { even = c.requires.0; steps = λ v. ((located-step (arena_from x.root v x.heads.now x.ids.now x.shares.now x.minima.now) c.requires.1 x.pane (location_of c.find_pane-l.result) (c.find_pane-l.ensures x.shares.now x.minima.now c.requires.0.shares c.requires.0.minima) (λ (m : PaneLocation). Rule.activate_at m (arena_from x.root v x.heads.now x.ids.now x.shares.now x.minima.now)) _ (ap location_of c.enum_told-in-Tile-1.given.1)), refl) }
+    record { even = c.requires.0; steps = λ v. ((located-step (arena_from x.root v x.heads.now x.ids.now x.shares.now x.minima.now) c.requires.1 x.pane (location_of c.find_pane-l.result) (c.find_pane-l.ensures x.shares.now x.minima.now c.requires.0.shares c.requires.0.minima) (λ (m : PaneLocation). Rule.activate_at m (arena_from x.root v x.heads.now x.ids.now x.shares.now x.minima.now)) _ (ap location_of c.in-Tile.is)), refl) }
 
 pub returns-in-InTabs : goal.returns-in-InTabs
 returns-in-InTabs c =
     let x = c.args in
     record {
       even = c.activate_in.ensures.even;
-      steps = λ v. steps-like (arena_from x.root v x.heads.now x.ids.now x.shares.now x.minima.now) (Rule.activate_pane (arena_from x.root v x.heads.now x.ids.now x.shares.now x.minima.now) x.pane) _ c.activate_in.result _ (located-step (arena_from x.root v x.heads.now x.ids.now x.shares.now x.minima.now) c.requires.1 x.pane (location_of c.find_pane-l.result) (c.find_pane-l.ensures x.shares.now x.minima.now c.requires.0.shares c.requires.0.minima) (λ (m : PaneLocation). Rule.activate_at m (arena_from x.root v x.heads.now x.ids.now x.shares.now x.minima.now)) _ (ap location_of c.l-1.given.1)) (c.activate_in.ensures.steps v);
+      steps = λ v. steps-like (arena_from x.root v x.heads.now x.ids.now x.shares.now x.minima.now) (Rule.activate_pane (arena_from x.root v x.heads.now x.ids.now x.shares.now x.minima.now) x.pane) _ c.activate_in.result _ (located-step (arena_from x.root v x.heads.now x.ids.now x.shares.now x.minima.now) c.requires.1 x.pane (location_of c.find_pane-l.result) (c.find_pane-l.ensures x.shares.now x.minima.now c.requires.0.shares c.requires.0.minima) (λ (m : PaneLocation). Rule.activate_at m (arena_from x.root v x.heads.now x.ids.now x.shares.now x.minima.now)) _ (ap location_of c.in-InTabs.is)) (c.activate_in.ensures.steps v);
     }

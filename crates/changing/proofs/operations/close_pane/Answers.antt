@@ -1,6 +1,5 @@
 -- `changing::operations::close_pane` refuses a pane that is nowhere, or takes it out. Assumes nothing.
 use mathlib.Core.Path.{sym, ◌∙◌}
-use borrow.Author.Tests.{not-true, not-false}
 use Rattle.rules.specs.Target.{PaneLocation}
 use Rattle.rules.specs.declared.refusal.Refusal.TheVariants.{InvalidPaneId}
 use Rattle.columns.specs.Shown.{arena_from}
@@ -12,7 +11,7 @@ use Rattle.changing.proofs.operations.close_pane.Goals as goal
 pub returns-then-not-is_somewhere : goal.returns-then-not-is_somewhere
 returns-then-not-is_somewhere c =
     let x = c.args in
-    record { even = c.requires.0; steps = λ v. refused_as (arena_from x.root v x.heads.now x.ids.now x.shares.now x.minima.now) (Rule.close_pane (arena_from x.root v x.heads.now x.ids.now x.shares.now x.minima.now) x.pane) InvalidPaneId (located-nowhere (arena_from x.root v x.heads.now x.ids.now x.shares.now x.minima.now) c.requires.1 x.pane (location_of c.find_pane-l.result) (c.find_pane-l.ensures x.shares.now x.minima.now c.requires.0.shares c.requires.0.minima) (λ (m : PaneLocation). Rule.close_at m (arena_from x.root v x.heads.now x.ids.now x.shares.now x.minima.now)) (sym c.is_somewhere.ensures ∙ not-true c.is_somewhere.result c.if-not-is_somewhere.true)) }
+    record { even = c.requires.0; steps = λ v. refused_as (arena_from x.root v x.heads.now x.ids.now x.shares.now x.minima.now) (Rule.close_pane (arena_from x.root v x.heads.now x.ids.now x.shares.now x.minima.now) x.pane) InvalidPaneId (located-nowhere (arena_from x.root v x.heads.now x.ids.now x.shares.now x.minima.now) c.requires.1 x.pane (location_of c.find_pane-l.result) (c.find_pane-l.ensures x.shares.now x.minima.now c.requires.0.shares c.requires.0.minima) (λ (m : PaneLocation). Rule.close_at m (arena_from x.root v x.heads.now x.ids.now x.shares.now x.minima.now)) (sym c.is_somewhere.ensures ∙ c.if-not-is_somewhere.true)) }
 
 pub remove_pane-requires : goal.remove_pane-requires
 remove_pane-requires c =
@@ -22,4 +21,4 @@ remove_pane-requires c =
 pub returns : goal.returns
 returns c =
     let x = c.args in
-    record { even = c.remove_pane.ensures.1; steps = λ v. close-goes (arena_from x.root v x.heads.now x.ids.now x.shares.now x.minima.now) c.requires.1 x.pane (location_of c.find_pane-l.result) (c.find_pane-l.ensures x.shares.now x.minima.now c.requires.0.shares c.requires.0.minima) _ c.first_empty-spare.result (sym c.is_somewhere.ensures ∙ not-false c.is_somewhere.result c.if-not-is_somewhere.false) c.remove_pane.ensures.0 (c.first_empty-spare.ensures x.ids.now x.shares.now x.minima.now c.requires.0.ids c.requires.0.shares c.requires.0.minima) }
+    record { even = c.remove_pane.ensures.1; steps = λ v. close-goes (arena_from x.root v x.heads.now x.ids.now x.shares.now x.minima.now) c.requires.1 x.pane (location_of c.find_pane-l.result) (c.find_pane-l.ensures x.shares.now x.minima.now c.requires.0.shares c.requires.0.minima) _ c.first_empty-spare.result (sym c.is_somewhere.ensures ∙ c.if-not-is_somewhere.false) c.remove_pane.ensures.0 (c.first_empty-spare.ensures x.ids.now x.shares.now x.minima.now c.requires.0.ids c.requires.0.shares c.requires.0.minima) }

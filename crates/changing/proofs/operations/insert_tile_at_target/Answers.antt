@@ -1,6 +1,6 @@
 -- `changing::operations::insert_tile_at_target` goes by the target. Assumes nothing.
 use mathlib.Core.Path.{refl, sym, ap, ◌∙◌}
-use mathlib.Core.List.{◌∷◌}
+use mathlib.Core.List.{[], ◌∷◌}
 use Rattle.rules.specs.Tree.{Node, view_slot, pane, tabs}
 use Rattle.rules.specs.Insert.{draft, beside}
 use Rattle.rules.specs.declared.operation.DockTarget.{DockTarget}
@@ -30,7 +30,7 @@ returns-in-Root c =
     record {
       even = c.put_near.ensures.even;
       steps = λ a T. steps-like a (Rule.insert_tile_at_target a x.pane x.target (draft a.root (nodes_from x.heads.now x.ids.now x.shares.now x.minima.now))) _ c.put_near.result _
-          (ap (λ (d : DockTarget). Rule.insert_tile_at_target a x.pane d (draft a.root (nodes_from x.heads.now x.ids.now x.shares.now x.minima.now))) c.enum_told-1.given.1 ∙ (λ z. Rule.put_near a (sym c.top_group-new.ensures.0 z) (beside (sym (root-target x.root x.room (nodes_from x.heads.now x.ids.now x.shares.now x.minima.now) a T) z) Horizontal After (sym a_half z)) (draft a.root (nodes_from x.heads.now x.ids.now x.shares.now x.minima.now))))
+          (ap (λ (d : DockTarget). Rule.insert_tile_at_target a x.pane d (draft a.root (nodes_from x.heads.now x.ids.now x.shares.now x.minima.now))) c.in-Root.is ∙ (λ z. Rule.put_near a (sym c.top_group-new.ensures.0 z) (beside (sym (root-target x.root x.room (nodes_from x.heads.now x.ids.now x.shares.now x.minima.now) a T) z) Horizontal After (sym a_half z)) (draft a.root (nodes_from x.heads.now x.ids.now x.shares.now x.minima.now))))
           (c.put_near.ensures.steps a (fits-new x.root x.room (nodes_from x.heads.now x.ids.now x.shares.now x.minima.now) (view_slot c.top_group-new.result) (tabs Top 0 (x.pane ∷ [])) a c.top_group-new.ensures.0 refl T));
     }
 
@@ -41,11 +41,11 @@ returns-in-Split c =
     record {
       even = c.put_near-in-Split.ensures.even;
       steps = λ a T. steps-like a (Rule.insert_tile_at_target a x.pane x.target (draft a.root (nodes_from x.heads.now x.ids.now x.shares.now x.minima.now))) _ c.put_near-in-Split.result _
-          (ap (λ (d : DockTarget). Rule.insert_tile_at_target a x.pane d (draft a.root (nodes_from x.heads.now x.ids.now x.shares.now x.minima.now))) c.target-1.given.1 ∙ ap (λ (n : Node). Rule.put_near a n (beside y.0 y.1.0 y.1.1.0 y.1.1.1.0) (draft a.root (nodes_from x.heads.now x.ids.now x.shares.now x.minima.now))) (sym c.pane_slot-new.ensures.0))
+          (ap (λ (d : DockTarget). Rule.insert_tile_at_target a x.pane d (draft a.root (nodes_from x.heads.now x.ids.now x.shares.now x.minima.now))) c.in-Split.is ∙ ap (λ (n : Node). Rule.put_near a n (beside y.0 y.1.0 y.1.1.0 y.1.1.1.0) (draft a.root (nodes_from x.heads.now x.ids.now x.shares.now x.minima.now))) (sym c.pane_slot-new.ensures.0))
           (c.put_near-in-Split.ensures.steps a (fits-new x.root x.room (nodes_from x.heads.now x.ids.now x.shares.now x.minima.now) (view_slot c.pane_slot-new.result) (pane x.pane) a c.pane_slot-new.ensures.0 refl T));
     }
 
 pub returns-in-TabInto : goal.returns-in-TabInto
 returns-in-TabInto c =
     let x = c.args in
-    record { even = c.tab_into.ensures.even; steps = λ a T. steps-like a (Rule.insert_tile_at_target a x.pane x.target (draft a.root (nodes_from x.heads.now x.ids.now x.shares.now x.minima.now))) _ c.tab_into.result _ (ap (λ (d : DockTarget). Rule.insert_tile_at_target a x.pane d (draft a.root (nodes_from x.heads.now x.ids.now x.shares.now x.minima.now))) c.target-in-TabInto-1.given.1) (c.tab_into.ensures.steps a T) }
+    record { even = c.tab_into.ensures.even; steps = λ a T. steps-like a (Rule.insert_tile_at_target a x.pane x.target (draft a.root (nodes_from x.heads.now x.ids.now x.shares.now x.minima.now))) _ c.tab_into.result _ (ap (λ (d : DockTarget). Rule.insert_tile_at_target a x.pane d (draft a.root (nodes_from x.heads.now x.ids.now x.shares.now x.minima.now))) c.in-TabInto.is) (c.tab_into.ensures.steps a T) }

@@ -1,6 +1,5 @@
 -- `changing::operations::move_pane` goes by the pane, then by the target. Assumes nothing.
 use mathlib.Core.Path.{sym, ap, ◌∙◌}
-use borrow.Author.Tests.{not-true, not-false}
 use Rattle.rules.specs.Target.{PaneLocation}
 use Rattle.rules.specs.declared.refusal.Refusal.TheVariants.{InvalidPaneId}
 use Rattle.columns.specs.RowLaws.{even-long}
@@ -13,12 +12,12 @@ use Rattle.changing.proofs.operations.move_pane.Goals as goal
 pub returns-then-not-is_somewhere : goal.returns-then-not-is_somewhere
 returns-then-not-is_somewhere c =
     let x = c.args in
-    record { even = c.requires.0; steps = λ v. refused_as (arena_from x.root v x.heads.now x.ids.now x.shares.now x.minima.now) (Rule.move_pane (arena_from x.root v x.heads.now x.ids.now x.shares.now x.minima.now) x.pane x.to) InvalidPaneId (located-nowhere (arena_from x.root v x.heads.now x.ids.now x.shares.now x.minima.now) c.requires.1 x.pane (location_of c.find_pane-l.result) (c.find_pane-l.ensures x.shares.now x.minima.now c.requires.0.shares c.requires.0.minima) (λ (m : PaneLocation). Rule.move_at m (arena_from x.root v x.heads.now x.ids.now x.shares.now x.minima.now) x.pane x.to) (sym c.is_somewhere.ensures ∙ not-true c.is_somewhere.result c.if-not-is_somewhere.true)) }
+    record { even = c.requires.0; steps = λ v. refused_as (arena_from x.root v x.heads.now x.ids.now x.shares.now x.minima.now) (Rule.move_pane (arena_from x.root v x.heads.now x.ids.now x.shares.now x.minima.now) x.pane x.to) InvalidPaneId (located-nowhere (arena_from x.root v x.heads.now x.ids.now x.shares.now x.minima.now) c.requires.1 x.pane (location_of c.find_pane-l.result) (c.find_pane-l.ensures x.shares.now x.minima.now c.requires.0.shares c.requires.0.minima) (λ (m : PaneLocation). Rule.move_at m (arena_from x.root v x.heads.now x.ids.now x.shares.now x.minima.now) x.pane x.to) (sym c.is_somewhere.ensures ∙ c.if-not-is_somewhere.true)) }
 
 pub returns-in-Bad : goal.returns-in-Bad
 returns-in-Bad c =
     let x = c.args in
-    record { even = c.requires.0; steps = λ v. refused_as (arena_from x.root v x.heads.now x.ids.now x.shares.now x.minima.now) (Rule.move_pane (arena_from x.root v x.heads.now x.ids.now x.shares.now x.minima.now) x.pane x.to) _ (move-refused (arena_from x.root v x.heads.now x.ids.now x.shares.now x.minima.now) c.requires.1 x.pane (location_of c.find_pane-l.result) (c.find_pane-l.ensures x.shares.now x.minima.now c.requires.0.shares c.requires.0.minima) x.to _ (sym c.is_somewhere.ensures ∙ not-false c.is_somewhere.result c.if-not-is_somewhere.false) (sym (ap checked_of c.checked-1.given.1) ∙ c.validate_target-checked.ensures)) }
+    record { even = c.requires.0; steps = λ v. refused_as (arena_from x.root v x.heads.now x.ids.now x.shares.now x.minima.now) (Rule.move_pane (arena_from x.root v x.heads.now x.ids.now x.shares.now x.minima.now) x.pane x.to) _ (move-refused (arena_from x.root v x.heads.now x.ids.now x.shares.now x.minima.now) c.requires.1 x.pane (location_of c.find_pane-l.result) (c.find_pane-l.ensures x.shares.now x.minima.now c.requires.0.shares c.requires.0.minima) x.to _ (sym c.is_somewhere.ensures ∙ c.if-not-is_somewhere.false) (sym (ap checked_of c.in-Bad.is) ∙ c.validate_target-checked.ensures)) }
 
 pub remove_pane-requires : goal.remove_pane-requires
 remove_pane-requires c =
@@ -36,6 +35,6 @@ returns c =
     record {
       even = c.insert_tile_at_target.ensures.even;
       steps = λ v. steps-like (arena_from x.root v x.heads.now x.ids.now x.shares.now x.minima.now) (Rule.move_pane (arena_from x.root v x.heads.now x.ids.now x.shares.now x.minima.now) x.pane x.to) _ c.insert_tile_at_target.result _
-          (move-goes (arena_from x.root v x.heads.now x.ids.now x.shares.now x.minima.now) c.requires.1 x.pane (location_of c.find_pane-l.result) (c.find_pane-l.ensures x.shares.now x.minima.now c.requires.0.shares c.requires.0.minima) x.to _ (sym c.is_somewhere.ensures ∙ not-false c.is_somewhere.result c.if-not-is_somewhere.false) (sym (ap checked_of c.enum_told-1.given.1) ∙ c.validate_target-checked.ensures) c.remove_pane.ensures.0)
+          (move-goes (arena_from x.root v x.heads.now x.ids.now x.shares.now x.minima.now) c.requires.1 x.pane (location_of c.find_pane-l.result) (c.find_pane-l.ensures x.shares.now x.minima.now c.requires.0.shares c.requires.0.minima) x.to _ (sym c.is_somewhere.ensures ∙ c.if-not-is_somewhere.false) (sym (ap checked_of c.in_default.is) ∙ c.validate_target-checked.ensures) c.remove_pane.ensures.0)
           (c.insert_tile_at_target.ensures.steps (arena_from x.root v x.heads.now x.ids.now x.shares.now x.minima.now) (taken_out (arena_from x.root v x.heads.now x.ids.now x.shares.now x.minima.now) c.requires.1 x.pane (location_of c.find_pane-l.result) (c.find_pane-l.ensures x.shares.now x.minima.now c.requires.0.shares c.requires.0.minima) c.spares-room.result _ (c.spares-room.ensures x.ids.now x.shares.now x.minima.now c.requires.0.ids c.requires.0.shares c.requires.0.minima) (even-long _ _ _ _ c.remove_pane.ensures.1) c.remove_pane.ensures.0));
     }

@@ -12,17 +12,17 @@ use Rattle.changing.proofs.reorder.reorder_tab.Goals as goal
 pub reorder_in-requires : goal.reorder_in-requires
 reorder_in-requires c =
     let x = c.args in
-    (c.requires, c.get_node-s.ensures.1, is-group c.get_node-s.result _ c.enum_told-in-Tabs-1.given.1)
+    (c.requires, c.get_node-s.ensures.1, is-group c.get_node-s.result _ c.in-Tabs.is)
 
 pub returns-in-Empty : goal.returns-in-Empty
 returns-in-Empty c =
     let x = c.args in
-    record { even = c.requires; steps = λ v. refused_as (arena_from x.root v x.heads.now x.ids.now x.shares.now x.minima.now) (Rule.reorder_tab (arena_from x.root v x.heads.now x.ids.now x.shares.now x.minima.now) x.group x.pane x.index) InvalidTileId (reorder-kind (arena_from x.root v x.heads.now x.ids.now x.shares.now x.minima.now) x.group x.pane x.index (view_slot c.get_node-s.result) _ c.get_node-s.ensures.0 (ap (λ (y : Kind). node_of y c.get_node-s.result) c.enum_told-1.given.1)) }
+    record { even = c.requires; steps = λ v. refused_as (arena_from x.root v x.heads.now x.ids.now x.shares.now x.minima.now) (Rule.reorder_tab (arena_from x.root v x.heads.now x.ids.now x.shares.now x.minima.now) x.group x.pane x.index) InvalidTileId (reorder-kind (arena_from x.root v x.heads.now x.ids.now x.shares.now x.minima.now) x.group x.pane x.index (view_slot c.get_node-s.result) _ c.get_node-s.ensures.0 (ap (λ (y : Kind). node_of y c.get_node-s.result) c.in-Empty.is)) }
 
 pub returns-in-Pane : goal.returns-in-Pane
 returns-in-Pane c =
     let x = c.args in
-    record { even = c.requires; steps = λ v. refused_as (arena_from x.root v x.heads.now x.ids.now x.shares.now x.minima.now) (Rule.reorder_tab (arena_from x.root v x.heads.now x.ids.now x.shares.now x.minima.now) x.group x.pane x.index) InvalidTileId (reorder-kind (arena_from x.root v x.heads.now x.ids.now x.shares.now x.minima.now) x.group x.pane x.index (view_slot c.get_node-s.result) _ c.get_node-s.ensures.0 (ap (λ (y : Kind). node_of y c.get_node-s.result) c.enum_told-in-Pane-1.given.1)) }
+    record { even = c.requires; steps = λ v. refused_as (arena_from x.root v x.heads.now x.ids.now x.shares.now x.minima.now) (Rule.reorder_tab (arena_from x.root v x.heads.now x.ids.now x.shares.now x.minima.now) x.group x.pane x.index) InvalidTileId (reorder-kind (arena_from x.root v x.heads.now x.ids.now x.shares.now x.minima.now) x.group x.pane x.index (view_slot c.get_node-s.result) _ c.get_node-s.ensures.0 (ap (λ (y : Kind). node_of y c.get_node-s.result) c.in-Pane.is)) }
 
 pub returns-in-Tabs : goal.returns-in-Tabs
 returns-in-Tabs c =
@@ -32,4 +32,4 @@ returns-in-Tabs c =
 pub returns-in-Split : goal.returns-in-Split
 returns-in-Split c =
     let x = c.args in
-    record { even = c.requires; steps = λ v. refused_as (arena_from x.root v x.heads.now x.ids.now x.shares.now x.minima.now) (Rule.reorder_tab (arena_from x.root v x.heads.now x.ids.now x.shares.now x.minima.now) x.group x.pane x.index) InvalidTileId (reorder-kind (arena_from x.root v x.heads.now x.ids.now x.shares.now x.minima.now) x.group x.pane x.index (view_slot c.get_node-s.result) _ c.get_node-s.ensures.0 (ap (λ (y : Kind). node_of y c.get_node-s.result) c.enum_told-in-Split-1.given.1)) }
+    record { even = c.requires; steps = λ v. refused_as (arena_from x.root v x.heads.now x.ids.now x.shares.now x.minima.now) (Rule.reorder_tab (arena_from x.root v x.heads.now x.ids.now x.shares.now x.minima.now) x.group x.pane x.index) InvalidTileId (reorder-kind (arena_from x.root v x.heads.now x.ids.now x.shares.now x.minima.now) x.group x.pane x.index (view_slot c.get_node-s.result) _ c.get_node-s.ensures.0 (ap (λ (y : Kind). node_of y c.get_node-s.result) c.in-Split.is)) }

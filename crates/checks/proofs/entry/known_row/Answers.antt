@@ -11,7 +11,7 @@ returns-in-Row c =
     let bytes = c.args.b.now in
     let t = c.args.t in
     let i = c.args.i in
-    ap (λ (r : RowRead). row_or (read_is r)) (sym c.row-1.given.1) ∙ row-entry bytes t.rows t.row_count i c.requires.1 (read_is at-row-at.result) at-row-at.ensures.is
+    ap (λ (r : RowRead). row_or (read_is r)) (sym c.in-Row.is) ∙ row-entry bytes t.rows t.row_count i c.requires.1 (read_is at-row-at.result) at-row-at.ensures.is
 
 pub returns-in-Bad : goal.returns-in-Bad
 returns-in-Bad c =
@@ -19,4 +19,4 @@ returns-in-Bad c =
     let bytes = c.args.b.now in
     let t = c.args.t in
     let i = c.args.i in
-    ap (λ (r : RowRead). row_or (read_is r)) (sym c.enum_told-1.given.1) ∙ row-entry bytes t.rows t.row_count i c.requires.1 (read_is at-row-at.result) at-row-at.ensures.is
+    ap (λ (r : RowRead). row_or (read_is r)) (sym c.in-Bad.is) ∙ row-entry bytes t.rows t.row_count i c.requires.1 (read_is at-row-at.result) at-row-at.ensures.is

@@ -16,7 +16,7 @@ first_duplicate-requires c =
     let p = c.args.p in
     let s = c.args.s in
     let m = c.args.m in
-    let e = c.enum_told-1.given.1 in
+    let e = c.in-Pane.is in
     let rm = subst (λ (r : TableRow). Room t (row_is r) p s m) (e) c.requires.1 in
     (c.requires.2.size, omega (arith, rm.panes, c.requires.2.few))
 
@@ -26,7 +26,7 @@ check_tabs-requires c =
     let p = c.args.p in
     let s = c.args.s in
     let m = c.args.m in
-    let e = c.row-1.given.1 in
+    let e = c.in-Tabs.is in
     let rm = subst (λ (r : TableRow). Room t (row_is r) p s m) (e) c.requires.1 in
     (c.requires.2.size, omega (arith, rm.panes, c.requires.2.few))
 
@@ -36,7 +36,7 @@ check_split-requires c =
     let p = c.args.p in
     let s = c.args.s in
     let m = c.args.m in
-    let e = c.row-in-Split-1.given.1 in
+    let e = c.in-Split.is in
     let rm = subst (λ (r : TableRow). Room t (row_is r) p s m) (e) c.requires.1 in
     (c.requires.0, rm.shares, rm.minima)
 
@@ -47,7 +47,7 @@ returns-in-Pane c =
     let p = c.args.p in
     let s = c.args.s in
     let m = c.args.m in
-    let e = c.enum_told-1.given.1 in
+    let e = c.in-Pane.is in
     let rm = subst (λ (r : TableRow). Room t (row_is r) p s m) (e) c.requires.1 in
     let table = table_of bytes t in
     let to = ap (λ (r : TableRow). row_refusal (row_is r) (left_at table p s m) (take p (panes_at bytes t))) (sym (e)) in
@@ -75,6 +75,6 @@ returns-in-Split c =
     let p = c.args.p in
     let s = c.args.s in
     let m = c.args.m in
-    let e = c.row-in-Split-1.given.1 in
+    let e = c.in-Split.is in
     let to = ap (λ (r : TableRow). row_refusal (row_is r) (left_at table p s m) (take p (panes_at bytes t))) (sym (e)) in
     c.check_split.ensures ∙ to

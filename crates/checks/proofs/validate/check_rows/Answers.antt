@@ -44,7 +44,7 @@ returns-in-Bad c =
     let table = table_of bytes t in
     let len = length-entries bytes t.rows t.row_count row_from in
     let row = row_is at-known-row.result in
-    checking-bad table at-loop.i at-loop.p at-loop.s at-loop.m at-loop.invariant.1 (let q = len in omega (arith, at-loop-test.true)) row at-known-row.ensures c.e-1.given.0.0 (ap checked_as (sym c.e-1.given.1) ∙ at-check-row.ensures)
+    checking-bad table at-loop.i at-loop.p at-loop.s at-loop.m at-loop.invariant.1 (let q = len in omega (arith, at-loop-test.true)) row at-known-row.ensures c.in-Bad.e (ap checked_as (sym c.in-Bad.is) ∙ at-check-row.ensures)
 
 pub overflow_add-p : goal.overflow_add-p
 overflow_add-p c =

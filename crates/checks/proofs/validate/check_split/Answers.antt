@@ -63,7 +63,7 @@ returns-in-At c =
     let ms = take nm (drop m table.minima) in
     let a = part_length table.shares s ns (let l = length-entries bytes t.shares t.share_count real in omega (arith, c.requires.1)) in
     let b = part_length table.minima m nm (let l = length-entries bytes t.minima t.minimum_count real in omega (arith, c.requires.2)) in
-    split-share n ns nm ss ms a b at-if1.false at-if2.false c.index-1.given.0.0 (ap place_of (sym c.index-1.given.1) ∙ at-bad-share.ensures)
+    split-share n ns nm ss ms a b at-if1.false at-if2.false c.in-At.index (ap place_of (sym c.in-At.is) ∙ at-bad-share.ensures)
 
 pub returns-then-n-nm : goal.returns-then-n-nm
 returns-then-n-nm c =
@@ -82,7 +82,7 @@ returns-then-n-nm c =
     let ms = take nm (drop m table.minima) in
     let a = part_length table.shares s ns (let l = length-entries bytes t.shares t.share_count real in omega (arith, c.requires.1)) in
     let b = part_length table.minima m nm (let l = length-entries bytes t.minima t.minimum_count real in omega (arith, c.requires.2)) in
-    let f = ap place_of (sym c.enum_told-1.given.1) ∙ at-bad-share.ensures in
+    let f = ap place_of (sym c.in_default.is) ∙ at-bad-share.ensures in
     split-many n ns nm ss ms a b at-if1.false at-if2.false f c.if-n-nm.true
 
 pub bad_minimum-requires : goal.bad_minimum-requires
@@ -110,7 +110,7 @@ returns-in-At-bad_minimum c =
     let a = part_length table.shares s ns (let l = length-entries bytes t.shares t.share_count real in omega (arith, c.requires.1)) in
     let b = part_length table.minima m nm (let l = length-entries bytes t.minima t.minimum_count real in omega (arith, c.requires.2)) in
     let f = ap place_of (sym at-enum-told.given.1) ∙ at-bad-share.ensures in
-    split-minimum n ns nm ss ms a b at-if1.false at-if2.false f at-if3.false c.index-in-At-bad_minimum-1.given.0.0 (ap place_of (sym c.index-in-At-bad_minimum-1.given.1) ∙ at-bad-minimum.ensures)
+    split-minimum n ns nm ss ms a b at-if1.false at-if2.false f at-if3.false c.in-At-bad_minimum.index (ap place_of (sym c.in-At-bad_minimum.is) ∙ at-bad-minimum.ensures)
 
 pub returns : goal.returns
 returns c =
@@ -132,4 +132,4 @@ returns c =
     let a = part_length table.shares s ns (let l = length-entries bytes t.shares t.share_count real in omega (arith, c.requires.1)) in
     let b = part_length table.minima m nm (let l = length-entries bytes t.minima t.minimum_count real in omega (arith, c.requires.2)) in
     let f = ap place_of (sym at-enum-told.given.1) ∙ at-bad-share.ensures in
-    split_good n ns nm ss ms a b at-if1.false at-if2.false f at-if3.false (ap place_of (sym c.enum_told-in_default-bad_minimum-1.given.1) ∙ c.bad_minimum.ensures)
+    split_good n ns nm ss ms a b at-if1.false at-if2.false f at-if3.false (ap place_of (sym c.in_default-bad_minimum.is) ∙ c.bad_minimum.ensures)

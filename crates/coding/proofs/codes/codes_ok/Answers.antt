@@ -1,7 +1,7 @@
 -- `coding::codes::codes_ok` passes one head after another until one is no code. Assumes nothing.
 use mathlib.Core.Path.{refl, ap, ◌∙◌}
+use mathlib.Core.List.{[]}
 use native.Mathlib.Omega.{arith}
-use borrow.Author.Tests.{not-true, not-false}
 use lib.Seq.{take_all}
 use Rattle.rules.specs.Lists.{all_of}
 use Rattle.loops.proofs.Loops.{tested-step, tested-fails, tested-end}
@@ -20,7 +20,7 @@ returns-then-not-code_ok c =
     let k = c.code_ok in
     let hs = c.args.heads.now in
     let n = c.heads_sized.ensures in
-    tested-fails code_ok hs 64 c.loop-i.i [] k.result (omega arith) (omega (arith, n)) k.ensures (not-true k.result c.if-not-code_ok.true) v.1 ∙ ap (all_of code_ok) (take_all 64 hs (omega (arith, n)))
+    tested-fails code_ok hs 64 c.loop-i.i [] k.result (omega arith) (omega (arith, n)) k.ensures c.if-not-code_ok.true v.1 ∙ ap (all_of code_ok) (take_all 64 hs (omega (arith, n)))
 
 pub loop-i-preserved : goal.loop-i-preserved
 loop-i-preserved c =
@@ -28,7 +28,7 @@ loop-i-preserved c =
     let k = c.code_ok in
     let hs = c.args.heads.now in
     let n = c.heads_sized.ensures in
-    (omega arith, tested-step code_ok hs 64 c.loop-i.i [] k.result (omega arith) (omega (arith, n)) k.ensures (not-false k.result c.if-not-code_ok.false) v.1)
+    (omega arith, tested-step code_ok hs 64 c.loop-i.i [] k.result (omega arith) (omega (arith, n)) k.ensures c.if-not-code_ok.false v.1)
 
 pub returns : goal.returns
 returns c =

@@ -6,7 +6,7 @@ use Rattle.coding.proofs.CodeLaws.{sides-not, sides-as}
 use Rattle.coding.proofs.codes.sides_ok.Goals as goal
 
 pub returns-then-w-gt1 : goal.returns-then-w-gt1
-returns-then-w-gt1 c = let w = c.args.t1 in sides-not (get_or w 2 0) (ltb (get_or w 3 0) 2) (omega (arith, c.if-w-gt1.true))
+returns-then-w-gt1 c = let w = c.args.w in sides-not (get_or w 2 0) (ltb (get_or w 3 0) 2) (omega (arith, c.if-w-gt1.true))
 
 pub returns : goal.returns
-returns c = let w = c.args.t1 in sides-as (get_or w 2 0) (ltb (get_or w 3 0) 2) (omega (arith, c.if-w-gt1.false))
+returns c = let w = c.args.w in sides-as (get_or w 2 0) (ltb (get_or w 3 0) 2) (omega (arith, c.if-w-gt1.false))

@@ -3,4 +3,4 @@ use Rattle.columns.specs.PackLaws.{axis-other}
 use Rattle.columns.proofs.modes.axis_of.Goals as goal
 
 pub returns-in_default : goal.returns-in_default
-returns-in_default c = axis-other c.args.mode c.in_default.rest.1
+returns-in_default c = axis-other c.args.mode c.in_default.in_default-own.rest.1

@@ -6,4 +6,4 @@ use Rattle.columns.proofs.pack.split_slot.Goals as goal
 pub returns : goal.returns
 returns c =
     let a = c.args in
-    split-made _ a.t1 a.row a.shares a.minima c.axis_of-axis.result c.bare_slot-s.ensures c.axis_of-axis.ensures c.tiles_of-at.ensures refl refl refl refl refl
+    split-made _ a.h a.row a.shares a.minima c.axis_of-axis.result c.bare_slot-s.ensures c.axis_of-axis.ensures c.tiles_of-at.ensures refl refl refl refl refl

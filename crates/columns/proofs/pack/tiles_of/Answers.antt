@@ -9,18 +9,18 @@ use Rattle.columns.proofs.pack.tiles_of.Goals as goal
 
 pub loop-i-init : goal.loop-i-init
 loop-i-init c =
-    let l : length c.args.t1 ≡ 16 = search rules in
-    (l, omega arith, mapped-none tile c.args.t1 16 l _ refl)
+    let l : length c.args.row ≡ 16 = search rules in
+    (l, omega arith, mapped-none tile c.args.row 16 l _ refl)
 
 pub loop-i-preserved : goal.loop-i-preserved
 loop-i-preserved c =
     let v = c.loop-i.invariant in (
       v.0,
       omega arith,
-      mapped-more tile c.args.t1 16 v.0 c.loop-i.at c.loop-i.i 0 (tile 0) _ v.2 (omega arith) refl,
+      mapped-more tile c.args.row 16 v.0 c.loop-i.at c.loop-i.i 0 (tile 0) _ v.2 (omega arith) refl,
     )
 
 pub returns : goal.returns
 returns c =
     let v = c.loop-i.invariant in
-    mapped-all tile c.args.t1 16 v.0 c.loop-i.at c.loop-i.i v.2 (omega arith)
+    mapped-all tile c.args.row 16 v.0 c.loop-i.at c.loop-i.i v.2 (omega arith)

@@ -2,6 +2,7 @@
 use mathlib.Core.Path.{refl, sym, ◌∙◌}
 use native.Mathlib.Omega.{arith}
 use mathlib.Core.Bool.{false}
+use mathlib.Core.List.{[]}
 use Rattle.lists.specs.Tests.{flagged-all}
 use Rattle.columns.specs.Pack.{over_head}
 use Rattle.columns.specs.PackLaws.{found, not_yet}

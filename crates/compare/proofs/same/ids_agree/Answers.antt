@@ -8,16 +8,16 @@ pub returns-then-not-same_number : goal.returns-then-not-same_number
 returns-then-not-same_number c =
     let a = c.args in
     let v = c.loop-j.invariant in
-    taken_not eqb a.len a.t1 a.t2 v.2 v.3 c.loop-j.j 0 c.same_number.result (search rules) c.same_number.ensures c.if-not-same_number.true v.4
+    taken_not eqb a.len a.xs a.ys v.2 v.3 c.loop-j.j 0 c.same_number.result (search rules) c.same_number.ensures c.if-not-same_number.true v.4
 
 pub loop-j-preserved : goal.loop-j-preserved
 loop-j-preserved c =
     let a = c.args in
     let v = c.loop-j.invariant in
-    (search rules, search rules, search rules, search rules, taken_more eqb a.len a.t1 a.t2 v.2 v.3 c.loop-j.j 0 c.same_number.result (search rules) c.same_number.ensures c.if-not-same_number.false v.4)
+    (search rules, search rules, search rules, search rules, taken_more eqb a.len a.xs a.ys v.2 v.3 c.loop-j.j 0 c.same_number.result (search rules) c.same_number.ensures c.if-not-same_number.false v.4)
 
 pub returns : goal.returns
 returns c =
     let a = c.args in
     let v = c.loop-j.invariant in
-    taken-all eqb a.len a.t1 a.t2 v.2 v.3 c.loop-j.j (search rules) v.4
+    taken-all eqb a.len a.xs a.ys v.2 v.3 c.loop-j.j (search rules) v.4

@@ -5,4 +5,4 @@ use Rattle.compare.proofs.same.is_pane.Goals as goal
 
 -- src/same.rt:191:1
 pub returns-in-Pane : goal.returns-in-Pane
-returns-in-Pane c = sym (ap (pane_to c.args.p) c.k-1.given.1)
+returns-in-Pane c = sym (ap (pane_to c.args.p) c.in-Pane.is)

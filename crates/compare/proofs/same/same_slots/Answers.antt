@@ -1,4 +1,5 @@
 -- `compare::same::same_slots`: the loop says what is left to compare. Assumes nothing.
+use mathlib.Core.List.{[]}
 use Rattle.rules.specs.declared.model.Kind.TheVariants.{Empty}
 use Rattle.rules.specs.declared.model.Slot.{Slot}
 use Rattle.compare.specs.Same.{same_slot}
@@ -22,16 +23,16 @@ pub returns-then-not-same_slot : goal.returns-then-not-same_slot
 returns-then-not-same_slot c =
     let a = c.args in
     let v = c.loop-j.invariant in
-    whole-not same_slot 64 a.t1 a.t2 v.1 v.2 c.loop-j.j none c.same_slot.result (search rules) c.same_slot.ensures c.if-not-same_slot.true v.3
+    whole-not same_slot 64 a.xs a.ys v.1 v.2 c.loop-j.j none c.same_slot.result (search rules) c.same_slot.ensures c.if-not-same_slot.true v.3
 
 pub loop-j-preserved : goal.loop-j-preserved
 loop-j-preserved c =
     let a = c.args in
     let v = c.loop-j.invariant in
-    (search rules, v.1, v.2, whole-more same_slot 64 a.t1 a.t2 v.1 v.2 c.loop-j.j none c.same_slot.result (search rules) c.same_slot.ensures c.if-not-same_slot.false v.3)
+    (search rules, v.1, v.2, whole-more same_slot 64 a.xs a.ys v.1 v.2 c.loop-j.j none c.same_slot.result (search rules) c.same_slot.ensures c.if-not-same_slot.false v.3)
 
 pub returns : goal.returns
 returns c =
     let a = c.args in
     let v = c.loop-j.invariant in
-    whole-all same_slot 64 a.t1 a.t2 v.1 v.2 c.loop-j.j (search rules) v.3
+    whole-all same_slot 64 a.xs a.ys v.1 v.2 c.loop-j.j (search rules) v.3

@@ -8,16 +8,16 @@ pub returns-then-not-same_tile : goal.returns-then-not-same_tile
 returns-then-not-same_tile c =
     let a = c.args in
     let v = c.loop-j.invariant in
-    taken_not same_tile a.len a.t1 a.t2 v.2 v.3 c.loop-j.j (tile 0) c.same_tile.result (search rules) c.same_tile.ensures c.if-not-same_tile.true v.4
+    taken_not same_tile a.len a.xs a.ys v.2 v.3 c.loop-j.j (tile 0) c.same_tile.result (search rules) c.same_tile.ensures c.if-not-same_tile.true v.4
 
 pub loop-j-preserved : goal.loop-j-preserved
 loop-j-preserved c =
     let a = c.args in
     let v = c.loop-j.invariant in
-    (search rules, search rules, search rules, search rules, taken_more same_tile a.len a.t1 a.t2 v.2 v.3 c.loop-j.j (tile 0) c.same_tile.result (search rules) c.same_tile.ensures c.if-not-same_tile.false v.4)
+    (search rules, search rules, search rules, search rules, taken_more same_tile a.len a.xs a.ys v.2 v.3 c.loop-j.j (tile 0) c.same_tile.result (search rules) c.same_tile.ensures c.if-not-same_tile.false v.4)
 
 pub returns : goal.returns
 returns c =
     let a = c.args in
     let v = c.loop-j.invariant in
-    taken-all same_tile a.len a.t1 a.t2 v.2 v.3 c.loop-j.j (search rules) v.4
+    taken-all same_tile a.len a.xs a.ys v.2 v.3 c.loop-j.j (search rules) v.4

@@ -1,4 +1,5 @@
 -- `crossing::tidy::tidy_all` makes one head after another, in place. Assumes nothing.
+use mathlib.Core.List.{[]}
 use native.Mathlib.Omega.{arith}
 use lib.ListN.{length-set}
 use Rattle.coding.specs.Lent.{tidied}

@@ -15,14 +15,14 @@ pub put_under-requires : goal.put_under-requires
 put_under-requires c =
     let x = c.args in
     let (a, W) = c.requires.2 in
-    (c.requires.0, c.requires.1, (a, put-unders x.root x.room (nodes_from x.heads.now x.ids.now x.shares.now x.minima.now) (view_slot x.new) x.b a (holder_of x.parent) W.0 _ _ (ap holder_of c.parent-1.given.1) W.1 c.if-target-root.false))
+    (c.requires.0, c.requires.1, (a, put-unders x.root x.room (nodes_from x.heads.now x.ids.now x.shares.now x.minima.now) (view_slot x.new) x.b a (holder_of x.parent) W.0 _ _ (ap holder_of c.in-In.is) W.1 c.if-target-root.false))
 
 pub returns-in-Nothing : goal.returns-in-Nothing
 returns-in-Nothing c =
     let x = c.args in
-    record { even = c.requires.0; steps = λ a W. put-loose x.root x.room (nodes_from x.heads.now x.ids.now x.shares.now x.minima.now) (view_slot x.new) x.b a (holder_of x.parent) W.0 c.if-target-root.false (ap holder_of c.enum_told-1.given.1) }
+    record { even = c.requires.0; steps = λ a W. put-loose x.root x.room (nodes_from x.heads.now x.ids.now x.shares.now x.minima.now) (view_slot x.new) x.b a (holder_of x.parent) W.0 c.if-target-root.false (ap holder_of c.in-Nothing.is) }
 
 pub returns-in-In : goal.returns-in-In
 returns-in-In c =
     let x = c.args in
-    record { even = c.Put-under.ensures.even; steps = λ a W. c.Put-under.ensures.steps a (put-unders x.root x.room (nodes_from x.heads.now x.ids.now x.shares.now x.minima.now) (view_slot x.new) x.b a (holder_of x.parent) W.0 _ _ (ap holder_of c.parent-1.given.1) W.1 c.if-target-root.false) }
+    record { even = c.Put-under.ensures.even; steps = λ a W. c.Put-under.ensures.steps a (put-unders x.root x.room (nodes_from x.heads.now x.ids.now x.shares.now x.minima.now) (view_slot x.new) x.b a (holder_of x.parent) W.0 _ _ (ap holder_of c.in-In.is) W.1 c.if-target-root.false) }

@@ -1,6 +1,5 @@
 -- `docking::near::put_near` goes by the target, by what holds it, and by the axis. Assumes nothing.
 use mathlib.Core.Path.{sym, ap, ◌∙◌}
-use borrow.Author.Tests.{not-true, not-false}
 use Rattle.rules.specs.Tree.{view_slot, is_empty}
 use Rattle.rules.specs.Insert.{same_axis_parent}
 use Rattle.forest.specs.Lists.{never}
@@ -19,28 +18,28 @@ pub put_apart-requires : goal.put_apart-requires
 put_apart-requires c =
     let x = c.args in
     let (a, F) = c.requires.2 in
-    (c.requires.0, c.requires.1, (a, ((put-nears x.root x.room (nodes_from x.heads.now x.ids.now x.shares.now x.minima.now) (view_slot x.new) x.b a F (holder_of c.find_parent-parent.result) (ap is_empty (sym c.get_node-at.ensures.0) ∙ sym c.is_empty.ensures ∙ c.if-is_empty.false) (c.find_parent-parent.ensures x.shares.now x.minima.now c.requires.0.shares c.requires.0.minima)), sym (put-axis x.root x.room (nodes_from x.heads.now x.ids.now x.shares.now x.minima.now) (view_slot x.new) x.b a F x.b.axis (holder_of c.find_parent-parent.result) c.same_axis_parent.result c.same_axis_parent.ensures) ∙ not-true c.same_axis_parent.result c.if-not-same_axis_parent.true)))
+    (c.requires.0, c.requires.1, (a, ((put-nears x.root x.room (nodes_from x.heads.now x.ids.now x.shares.now x.minima.now) (view_slot x.new) x.b a F (holder_of c.find_parent-parent.result) (ap is_empty (sym c.get_node-at.ensures.0) ∙ sym c.is_empty.ensures ∙ c.if-is_empty.false) (c.find_parent-parent.ensures x.shares.now x.minima.now c.requires.0.shares c.requires.0.minima)), sym (put-axis x.root x.room (nodes_from x.heads.now x.ids.now x.shares.now x.minima.now) (view_slot x.new) x.b a F x.b.axis (holder_of c.find_parent-parent.result) c.same_axis_parent.result c.same_axis_parent.ensures) ∙ c.if-not-same_axis_parent.true)))
 
 pub returns-then-not-same_axis_parent : goal.returns-then-not-same_axis_parent
 returns-then-not-same_axis_parent c =
     let x = c.args in
     record {
       even = c.put_apart.ensures.even;
-      steps = λ a F. c.put_apart.ensures.steps a ((put-nears x.root x.room (nodes_from x.heads.now x.ids.now x.shares.now x.minima.now) (view_slot x.new) x.b a F (holder_of c.find_parent-parent.result) (ap is_empty (sym c.get_node-at.ensures.0) ∙ sym c.is_empty.ensures ∙ c.if-is_empty.false) (c.find_parent-parent.ensures x.shares.now x.minima.now c.requires.0.shares c.requires.0.minima)), sym (put-axis x.root x.room (nodes_from x.heads.now x.ids.now x.shares.now x.minima.now) (view_slot x.new) x.b a F x.b.axis (holder_of c.find_parent-parent.result) c.same_axis_parent.result c.same_axis_parent.ensures) ∙ not-true c.same_axis_parent.result c.if-not-same_axis_parent.true);
+      steps = λ a F. c.put_apart.ensures.steps a ((put-nears x.root x.room (nodes_from x.heads.now x.ids.now x.shares.now x.minima.now) (view_slot x.new) x.b a F (holder_of c.find_parent-parent.result) (ap is_empty (sym c.get_node-at.ensures.0) ∙ sym c.is_empty.ensures ∙ c.if-is_empty.false) (c.find_parent-parent.ensures x.shares.now x.minima.now c.requires.0.shares c.requires.0.minima)), sym (put-axis x.root x.room (nodes_from x.heads.now x.ids.now x.shares.now x.minima.now) (view_slot x.new) x.b a F x.b.axis (holder_of c.find_parent-parent.result) c.same_axis_parent.result c.same_axis_parent.ensures) ∙ c.if-not-same_axis_parent.true);
     }
 
 pub put_in-requires : goal.put_in-requires
 put_in-requires c =
     let x = c.args in
     let (a, F) = c.requires.2 in
-    (c.requires.0, c.requires.1, (a, put-within x.root x.room (nodes_from x.heads.now x.ids.now x.shares.now x.minima.now) (view_slot x.new) x.b a (holder_of c.find_parent-parent.result) (put-nears x.root x.room (nodes_from x.heads.now x.ids.now x.shares.now x.minima.now) (view_slot x.new) x.b a F (holder_of c.find_parent-parent.result) (ap is_empty (sym c.get_node-at.ensures.0) ∙ sym c.is_empty.ensures ∙ c.if-is_empty.false) (c.find_parent-parent.ensures x.shares.now x.minima.now c.requires.0.shares c.requires.0.minima)) _ _ (ap holder_of c.parent-1.given.1) (sym (put-axis x.root x.room (nodes_from x.heads.now x.ids.now x.shares.now x.minima.now) (view_slot x.new) x.b a F x.b.axis (holder_of c.find_parent-parent.result) c.same_axis_parent.result c.same_axis_parent.ensures) ∙ not-false c.same_axis_parent.result c.if-not-same_axis_parent.false)))
+    (c.requires.0, c.requires.1, (a, put-within x.root x.room (nodes_from x.heads.now x.ids.now x.shares.now x.minima.now) (view_slot x.new) x.b a (holder_of c.find_parent-parent.result) (put-nears x.root x.room (nodes_from x.heads.now x.ids.now x.shares.now x.minima.now) (view_slot x.new) x.b a F (holder_of c.find_parent-parent.result) (ap is_empty (sym c.get_node-at.ensures.0) ∙ sym c.is_empty.ensures ∙ c.if-is_empty.false) (c.find_parent-parent.ensures x.shares.now x.minima.now c.requires.0.shares c.requires.0.minima)) _ _ (ap holder_of c.in-In.is) (sym (put-axis x.root x.room (nodes_from x.heads.now x.ids.now x.shares.now x.minima.now) (view_slot x.new) x.b a F x.b.axis (holder_of c.find_parent-parent.result) c.same_axis_parent.result c.same_axis_parent.ensures) ∙ c.if-not-same_axis_parent.false)))
 
 pub returns-in-Nothing : goal.returns-in-Nothing
 returns-in-Nothing c =
     let x = c.args in
     record {
       even = c.requires.0;
-      steps = λ a F. never (sym (not-false c.same_axis_parent.result c.if-not-same_axis_parent.false) ∙ c.same_axis_parent.ensures ∙ ap (λ (q : Holder). same_axis_parent x.b.axis (holder_of q) (nodes_from x.heads.now x.ids.now x.shares.now x.minima.now)) c.enum_told-1.given.1);
+      steps = λ a F. never (sym c.if-not-same_axis_parent.false ∙ c.same_axis_parent.ensures ∙ ap (λ (q : Holder). same_axis_parent x.b.axis (holder_of q) (nodes_from x.heads.now x.ids.now x.shares.now x.minima.now)) c.in-Nothing.is);
     }
 
 pub returns-in-In : goal.returns-in-In
@@ -48,5 +47,5 @@ returns-in-In c =
     let x = c.args in
     record {
       even = c.put_in.ensures.even;
-      steps = λ a F. c.put_in.ensures.steps a (put-within x.root x.room (nodes_from x.heads.now x.ids.now x.shares.now x.minima.now) (view_slot x.new) x.b a (holder_of c.find_parent-parent.result) (put-nears x.root x.room (nodes_from x.heads.now x.ids.now x.shares.now x.minima.now) (view_slot x.new) x.b a F (holder_of c.find_parent-parent.result) (ap is_empty (sym c.get_node-at.ensures.0) ∙ sym c.is_empty.ensures ∙ c.if-is_empty.false) (c.find_parent-parent.ensures x.shares.now x.minima.now c.requires.0.shares c.requires.0.minima)) _ _ (ap holder_of c.parent-1.given.1) (sym (put-axis x.root x.room (nodes_from x.heads.now x.ids.now x.shares.now x.minima.now) (view_slot x.new) x.b a F x.b.axis (holder_of c.find_parent-parent.result) c.same_axis_parent.result c.same_axis_parent.ensures) ∙ not-false c.same_axis_parent.result c.if-not-same_axis_parent.false));
+      steps = λ a F. c.put_in.ensures.steps a (put-within x.root x.room (nodes_from x.heads.now x.ids.now x.shares.now x.minima.now) (view_slot x.new) x.b a (holder_of c.find_parent-parent.result) (put-nears x.root x.room (nodes_from x.heads.now x.ids.now x.shares.now x.minima.now) (view_slot x.new) x.b a F (holder_of c.find_parent-parent.result) (ap is_empty (sym c.get_node-at.ensures.0) ∙ sym c.is_empty.ensures ∙ c.if-is_empty.false) (c.find_parent-parent.ensures x.shares.now x.minima.now c.requires.0.shares c.requires.0.minima)) _ _ (ap holder_of c.in-In.is) (sym (put-axis x.root x.room (nodes_from x.heads.now x.ids.now x.shares.now x.minima.now) (view_slot x.new) x.b a F x.b.axis (holder_of c.find_parent-parent.result) c.same_axis_parent.result c.same_axis_parent.ensures) ∙ c.if-not-same_axis_parent.false));
     }

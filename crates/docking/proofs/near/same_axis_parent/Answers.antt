@@ -9,9 +9,9 @@ use Rattle.docking.proofs.near.same_axis_parent.Goals as goal
 pub returns-in-Nothing : goal.returns-in-Nothing
 returns-in-Nothing c =
     let x = c.args in
-    ap (λ (q : Holder). same_axis_parent x.axis (holder_of q) (nodes_from x.heads.now x.ids.now x.shares.now x.minima.now)) (sym c.enum_told-1.given.1)
+    ap (λ (q : Holder). same_axis_parent x.axis (holder_of q) (nodes_from x.heads.now x.ids.now x.shares.now x.minima.now)) (sym c.in-Nothing.is)
 
 pub returns-in-In : goal.returns-in-In
 returns-in-In c =
     let x = c.args in
-    c.has_axis.ensures ∙ ap (has_axis x.axis) c.get_node-s.ensures.0 ∙ ap (λ (q : Holder). same_axis_parent x.axis (holder_of q) (nodes_from x.heads.now x.ids.now x.shares.now x.minima.now)) (sym c.parent-1.given.1)
+    c.has_axis.ensures ∙ ap (has_axis x.axis) c.get_node-s.ensures.0 ∙ ap (λ (q : Holder). same_axis_parent x.axis (holder_of q) (nodes_from x.heads.now x.ids.now x.shares.now x.minima.now)) (sym c.in-In.is)

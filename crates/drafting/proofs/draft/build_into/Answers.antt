@@ -10,7 +10,7 @@ use Rattle.drafting.proofs.draft.build_into.Goals as goal
 pub returns-in_default : goal.returns-in_default
 returns-in_default c =
     let bytes = c.args.b.now in
-    built-refused _ _ _ _ _ _ _ (draft-bad bytes (subst (λ (r : Sections). TableIs bytes r) c.enum_told-1.given.1 c.read_table.ensures))
+    built-refused _ _ _ _ _ _ _ (draft-bad bytes (subst (λ (r : Sections). TableIs bytes r) c.in_default.is c.read_table.ensures))
 
 pub returns-then-t-gt64 : goal.returns-then-t-gt64
 returns-then-t-gt64 c =
@@ -62,7 +62,7 @@ built_into-requires c =
     let t = at-t.given.0.0 in
     let w = subst (λ (r : Sections). TableIs bytes r) at-t.given.1 c.read_table.ensures in
     let g = sym c.if-too_wide.false ∙ c.too_wide.ensures in
-    let good = ap checked_as (sym c.enum_told-in_default-check_rows-1.given.1) ∙ c.check_rows.ensures in
+    let good = ap checked_as (sym c.in_default-check_rows.is) ∙ c.check_rows.ensures in
     (passed bytes t w c.if-t-gt64.false g good, c.requires)
 
 pub returns : goal.returns
@@ -72,5 +72,5 @@ returns c =
     let t = at-t.given.0.0 in
     let w = subst (λ (r : Sections). TableIs bytes r) at-t.given.1 c.read_table.ensures in
     let g = sym c.if-too_wide.false ∙ c.too_wide.ensures in
-    let good = ap checked_as (sym c.enum_told-in_default-check_rows-1.given.1) ∙ c.check_rows.ensures in
+    let good = ap checked_as (sym c.in_default-check_rows.is) ∙ c.check_rows.ensures in
     built-accepted _ _ _ _ _ _ _ (draft-built bytes t w c.if-t-gt64.false g good) c.built_into.ensures

@@ -1,8 +1,8 @@
 -- `frame::branches::split_handles`: the items passed, one by one. Assumes nothing.
 use mathlib.Core.Path.{sym, ◌∙◌}
+use mathlib.Core.List.{[]}
 use Prim.Native.Nat.{◌≤◌, ◌<◌}
 use native.Mathlib.Omega.{arith}
-use borrow.Author.Tests.{not-true, not-false}
 use lib.Dec.{ltb}
 use lib.ListN.{length, get_or, replicate, length-replicate}
 use Rattle.rules.specs.Frame.{handle_of}
@@ -28,7 +28,7 @@ loop-i-preserved-then-not-takes c =
     let lr : a.n ≤ length a.rects.now = omega (arith, p.0, p.2) in
     let c₀ = get_or a.items.now l.i [] in
     let q = get_or a.rects.now l.i [] in
-    going-skip handle_of 64 a.items.now a.rects.now a.n li lr (replicate 64 c.handle_of-none.result) l.at l.len l.i c.loop-i-test.true l.invariant (handle_from c₀ q) (ltb 4 (get_or c₀ 0 0)) (handle-by c₀ q (get_or c₀ 0 0)) (sym c.takes.ensures ∙ not-true c.takes.result c.if-not-takes.true)
+    going-skip handle_of 64 a.items.now a.rects.now a.n li lr (replicate 64 c.handle_of-none.result) l.at l.len l.i c.loop-i-test.true l.invariant (handle_from c₀ q) (ltb 4 (get_or c₀ 0 0)) (handle-by c₀ q (get_or c₀ 0 0)) (sym c.takes.ensures ∙ c.if-not-takes.true)
 
 pub handle_of-f-requires : goal.handle_of-f-requires
 handle_of-f-requires c = tt
@@ -36,19 +36,19 @@ handle_of-f-requires c = tt
 pub offset_bounds-at-len : goal.offset_bounds-at-len
 offset_bounds-at-len c =
     let l = c.loop-i in
-    let h : l.len < 64 = room-left (ltb 4 (get_or (get_or c.args.items.now l.i []) 0 0)) l.len 64 (sym c.takes.ensures ∙ not-false c.takes.result c.if-not-takes.false) in
+    let h : l.len < 64 = room-left (ltb 4 (get_or (get_or c.args.items.now l.i []) 0 0)) l.len 64 (sym c.takes.ensures ∙ c.if-not-takes.false) in
     omega arith
 
 pub bounds-at-len : goal.bounds-at-len
 bounds-at-len c =
     let l = c.loop-i in
-    let h : l.len < 64 = room-left (ltb 4 (get_or (get_or c.args.items.now l.i []) 0 0)) l.len 64 (sym c.takes.ensures ∙ not-false c.takes.result c.if-not-takes.false) in
+    let h : l.len < 64 = room-left (ltb 4 (get_or (get_or c.args.items.now l.i []) 0 0)) l.len 64 (sym c.takes.ensures ∙ c.if-not-takes.false) in
     omega arith
 
 pub overflow_add-len : goal.overflow_add-len
 overflow_add-len c =
     let l = c.loop-i in
-    let h : l.len < 64 = room-left (ltb 4 (get_or (get_or c.args.items.now l.i []) 0 0)) l.len 64 (sym c.takes.ensures ∙ not-false c.takes.result c.if-not-takes.false) in
+    let h : l.len < 64 = room-left (ltb 4 (get_or (get_or c.args.items.now l.i []) 0 0)) l.len 64 (sym c.takes.ensures ∙ c.if-not-takes.false) in
     omega arith
 
 pub loop-i-preserved : goal.loop-i-preserved
@@ -60,7 +60,7 @@ loop-i-preserved c =
     let lr : a.n ≤ length a.rects.now = omega (arith, p.0, p.2) in
     let c₀ = get_or a.items.now l.i [] in
     let q = get_or a.rects.now l.i [] in
-    going-take handle_of 64 a.items.now a.rects.now a.n li lr (replicate 64 c.handle_of-none.result) l.at l.len l.i c.loop-i-test.true l.invariant (handle_from c₀ q) (ltb 4 (get_or c₀ 0 0)) (handle-by c₀ q (get_or c₀ 0 0)) (sym c.takes.ensures ∙ not-false c.takes.result c.if-not-takes.false) c.handle_of-f.result c.handle_of-f.ensures
+    going-take handle_of 64 a.items.now a.rects.now a.n li lr (replicate 64 c.handle_of-none.result) l.at l.len l.i c.loop-i-test.true l.invariant (handle_from c₀ q) (ltb 4 (get_or c₀ 0 0)) (handle-by c₀ q (get_or c₀ 0 0)) (sym c.takes.ensures ∙ c.if-not-takes.false) c.handle_of-f.result c.handle_of-f.ensures
 
 pub returns : goal.returns
 returns c =

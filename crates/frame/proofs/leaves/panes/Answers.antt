@@ -1,8 +1,8 @@
 -- `frame::leaves::panes`: the items passed, one by one. Assumes nothing.
 use mathlib.Core.Path.{sym, ◌∙◌}
+use mathlib.Core.List.{[]}
 use Prim.Native.Nat.{◌≤◌, ◌<◌}
 use native.Mathlib.Omega.{arith}
-use borrow.Author.Tests.{not-true, not-false}
 use lib.Dec.{eqb}
 use lib.ListN.{length, get_or, replicate, length-replicate}
 use Rattle.rules.specs.Frame.{pane_of}
@@ -28,7 +28,7 @@ loop-i-preserved-then-not-takes c =
     let lr : a.n ≤ length a.rects.now = omega (arith, p.0, p.2) in
     let c₀ = get_or a.items.now l.i [] in
     let q = get_or a.rects.now l.i [] in
-    going-skip pane_of 64 a.items.now a.rects.now a.n li lr (replicate 64 c.pane_of-none.result) l.at l.len l.i c.loop-i-test.true l.invariant (pane_from c₀ q) (eqb (get_or c₀ 0 0) 1) (pane-by c₀ q (get_or c₀ 0 0)) (sym c.takes.ensures ∙ not-true c.takes.result c.if-not-takes.true)
+    going-skip pane_of 64 a.items.now a.rects.now a.n li lr (replicate 64 c.pane_of-none.result) l.at l.len l.i c.loop-i-test.true l.invariant (pane_from c₀ q) (eqb (get_or c₀ 0 0) 1) (pane-by c₀ q (get_or c₀ 0 0)) (sym c.takes.ensures ∙ c.if-not-takes.true)
 
 pub pane_of-f-requires : goal.pane_of-f-requires
 pane_of-f-requires c = tt
@@ -36,19 +36,19 @@ pane_of-f-requires c = tt
 pub offset_bounds-at-len : goal.offset_bounds-at-len
 offset_bounds-at-len c =
     let l = c.loop-i in
-    let h : l.len < 64 = room-left (eqb (get_or (get_or c.args.items.now l.i []) 0 0) 1) l.len 64 (sym c.takes.ensures ∙ not-false c.takes.result c.if-not-takes.false) in
+    let h : l.len < 64 = room-left (eqb (get_or (get_or c.args.items.now l.i []) 0 0) 1) l.len 64 (sym c.takes.ensures ∙ c.if-not-takes.false) in
     omega arith
 
 pub bounds-at-len : goal.bounds-at-len
 bounds-at-len c =
     let l = c.loop-i in
-    let h : l.len < 64 = room-left (eqb (get_or (get_or c.args.items.now l.i []) 0 0) 1) l.len 64 (sym c.takes.ensures ∙ not-false c.takes.result c.if-not-takes.false) in
+    let h : l.len < 64 = room-left (eqb (get_or (get_or c.args.items.now l.i []) 0 0) 1) l.len 64 (sym c.takes.ensures ∙ c.if-not-takes.false) in
     omega arith
 
 pub overflow_add-len : goal.overflow_add-len
 overflow_add-len c =
     let l = c.loop-i in
-    let h : l.len < 64 = room-left (eqb (get_or (get_or c.args.items.now l.i []) 0 0) 1) l.len 64 (sym c.takes.ensures ∙ not-false c.takes.result c.if-not-takes.false) in
+    let h : l.len < 64 = room-left (eqb (get_or (get_or c.args.items.now l.i []) 0 0) 1) l.len 64 (sym c.takes.ensures ∙ c.if-not-takes.false) in
     omega arith
 
 pub loop-i-preserved : goal.loop-i-preserved
@@ -60,7 +60,7 @@ loop-i-preserved c =
     let lr : a.n ≤ length a.rects.now = omega (arith, p.0, p.2) in
     let c₀ = get_or a.items.now l.i [] in
     let q = get_or a.rects.now l.i [] in
-    going-take pane_of 64 a.items.now a.rects.now a.n li lr (replicate 64 c.pane_of-none.result) l.at l.len l.i c.loop-i-test.true l.invariant (pane_from c₀ q) (eqb (get_or c₀ 0 0) 1) (pane-by c₀ q (get_or c₀ 0 0)) (sym c.takes.ensures ∙ not-false c.takes.result c.if-not-takes.false) c.pane_of-f.result c.pane_of-f.ensures
+    going-take pane_of 64 a.items.now a.rects.now a.n li lr (replicate 64 c.pane_of-none.result) l.at l.len l.i c.loop-i-test.true l.invariant (pane_from c₀ q) (eqb (get_or c₀ 0 0) 1) (pane-by c₀ q (get_or c₀ 0 0)) (sym c.takes.ensures ∙ c.if-not-takes.false) c.pane_of-f.result c.pane_of-f.ensures
 
 pub returns : goal.returns
 returns c =

@@ -1,8 +1,8 @@
 -- `frame::orders::focus_order`: the items passed, one by one. Assumes nothing.
 use mathlib.Core.Path.{refl, sym, ◌∙◌}
+use mathlib.Core.List.{[]}
 use Prim.Native.Nat.{ℕ, ◌≤◌, ◌<◌}
 use native.Mathlib.Omega.{arith}
-use borrow.Author.Tests.{not-true, not-false}
 use lib.Dec.{eqb}
 use lib.ListN.{length, get_or, replicate, length-replicate}
 use Rattle.rules.specs.Frame.{focus_of}
@@ -24,24 +24,24 @@ loop-i-preserved-then-not-takes c =
     let lr : a.n ≤ length a.rects.now = omega (arith, p.0, p.2) in
     let c₀ = get_or a.items.now l.i [] in
     let q = get_or a.rects.now l.i [] in
-    going-skip focus_of 1024 a.items.now a.rects.now a.n li lr (replicate 1024 0) l.at l.len l.i c.loop-i-test.true l.invariant (get_or c₀ 2 0) (eqb (get_or c₀ 0 0) 0) (focus-by c₀ q (get_or c₀ 0 0)) (sym c.takes.ensures ∙ not-true c.takes.result c.if-not-takes.true)
+    going-skip focus_of 1024 a.items.now a.rects.now a.n li lr (replicate 1024 0) l.at l.len l.i c.loop-i-test.true l.invariant (get_or c₀ 2 0) (eqb (get_or c₀ 0 0) 0) (focus-by c₀ q (get_or c₀ 0 0)) (sym c.takes.ensures ∙ c.if-not-takes.true)
 
 pub offset_bounds-at-len : goal.offset_bounds-at-len
 offset_bounds-at-len c =
     let l = c.loop-i in
-    let h : l.len < 1024 = room-left (eqb (get_or (get_or c.args.items.now l.i []) 0 0) 0) l.len 1024 (sym c.takes.ensures ∙ not-false c.takes.result c.if-not-takes.false) in
+    let h : l.len < 1024 = room-left (eqb (get_or (get_or c.args.items.now l.i []) 0 0) 0) l.len 1024 (sym c.takes.ensures ∙ c.if-not-takes.false) in
     omega arith
 
 pub bounds-at-len : goal.bounds-at-len
 bounds-at-len c =
     let l = c.loop-i in
-    let h : l.len < 1024 = room-left (eqb (get_or (get_or c.args.items.now l.i []) 0 0) 0) l.len 1024 (sym c.takes.ensures ∙ not-false c.takes.result c.if-not-takes.false) in
+    let h : l.len < 1024 = room-left (eqb (get_or (get_or c.args.items.now l.i []) 0 0) 0) l.len 1024 (sym c.takes.ensures ∙ c.if-not-takes.false) in
     omega arith
 
 pub overflow_add-len : goal.overflow_add-len
 overflow_add-len c =
     let l = c.loop-i in
-    let h : l.len < 1024 = room-left (eqb (get_or (get_or c.args.items.now l.i []) 0 0) 0) l.len 1024 (sym c.takes.ensures ∙ not-false c.takes.result c.if-not-takes.false) in
+    let h : l.len < 1024 = room-left (eqb (get_or (get_or c.args.items.now l.i []) 0 0) 0) l.len 1024 (sym c.takes.ensures ∙ c.if-not-takes.false) in
     omega arith
 
 pub loop-i-preserved : goal.loop-i-preserved
@@ -53,7 +53,7 @@ loop-i-preserved c =
     let lr : a.n ≤ length a.rects.now = omega (arith, p.0, p.2) in
     let c₀ = get_or a.items.now l.i [] in
     let q = get_or a.rects.now l.i [] in
-    going-take focus_of 1024 a.items.now a.rects.now a.n li lr (replicate 1024 0) l.at l.len l.i c.loop-i-test.true l.invariant (get_or c₀ 2 0) (eqb (get_or c₀ 0 0) 0) (focus-by c₀ q (get_or c₀ 0 0)) (sym c.takes.ensures ∙ not-false c.takes.result c.if-not-takes.false) (get_or c₀ 2 0) refl
+    going-take focus_of 1024 a.items.now a.rects.now a.n li lr (replicate 1024 0) l.at l.len l.i c.loop-i-test.true l.invariant (get_or c₀ 2 0) (eqb (get_or c₀ 0 0) 0) (focus-by c₀ q (get_or c₀ 0 0)) (sym c.takes.ensures ∙ c.if-not-takes.false) (get_or c₀ 2 0) refl
 
 pub returns : goal.returns
 returns c =

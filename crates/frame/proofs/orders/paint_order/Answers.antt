@@ -1,9 +1,8 @@
 -- `frame::orders::paint_order`: the items passed, one by one. Assumes nothing.
 use mathlib.Core.Path.{sym, ap, subst, ◌∙◌}
-use mathlib.Core.List.{List, map}
+use mathlib.Core.List.{List, [], map}
 use Prim.Native.Nat.{◌+◌, ◌≤◌, ◌<◌}
 use native.Mathlib.Omega.{arith}
-use borrow.Author.Tests.{not-true, not-false}
 use lib.Dec.{ltb}
 use lib.ListN.{length, get_or, replicate, length-map, length-replicate}
 use Rattle.rules.specs.Frame.{paint_of}
@@ -36,7 +35,7 @@ loop-i-preserved-then-not-takes c =
     let lr : a.n ≤ length a.rects.now = omega (arith, p.0, p.2) in
     let c₀ = get_or a.items.now l.i [] in
     let q = get_or a.rects.now l.i [] in
-    going-skip paint_of 1216 a.items.now a.rects.now a.n li lr (map item_of (replicate 1216 c.painted_of-none.result)) (map item_of l.at) l.len l.i c.loop-i-test.true l.invariant (painted_from c₀) (painted (get_or c₀ 0 0)) (paint-by c₀ q (get_or c₀ 0 0)) (sym (c.takes.ensures ∙ ap (λ (b : Bool). b && ltb l.len 1216) c.is_painted.ensures) ∙ not-true c.takes.result c.if-not-takes.true)
+    going-skip paint_of 1216 a.items.now a.rects.now a.n li lr (map item_of (replicate 1216 c.painted_of-none.result)) (map item_of l.at) l.len l.i c.loop-i-test.true l.invariant (painted_from c₀) (painted (get_or c₀ 0 0)) (paint-by c₀ q (get_or c₀ 0 0)) (sym (c.takes.ensures ∙ ap (λ (b : Bool). b && ltb l.len 1216) c.is_painted.ensures) ∙ c.if-not-takes.true)
 
 pub painted_of-p-requires : goal.painted_of-p-requires
 painted_of-p-requires c = tt
@@ -44,19 +43,19 @@ painted_of-p-requires c = tt
 pub offset_bounds-at-len : goal.offset_bounds-at-len
 offset_bounds-at-len c =
     let l = c.loop-i in
-    let h : l.len < 1216 = room-left c.is_painted.result l.len 1216 (sym c.takes.ensures ∙ not-false c.takes.result c.if-not-takes.false) in
+    let h : l.len < 1216 = room-left c.is_painted.result l.len 1216 (sym c.takes.ensures ∙ c.if-not-takes.false) in
     omega arith
 
 pub bounds-at-len : goal.bounds-at-len
 bounds-at-len c =
     let l = c.loop-i in
-    let h : l.len < 1216 = room-left c.is_painted.result l.len 1216 (sym c.takes.ensures ∙ not-false c.takes.result c.if-not-takes.false) in
+    let h : l.len < 1216 = room-left c.is_painted.result l.len 1216 (sym c.takes.ensures ∙ c.if-not-takes.false) in
     omega arith
 
 pub overflow_add-len : goal.overflow_add-len
 overflow_add-len c =
     let l = c.loop-i in
-    let h : l.len < 1216 = room-left c.is_painted.result l.len 1216 (sym c.takes.ensures ∙ not-false c.takes.result c.if-not-takes.false) in
+    let h : l.len < 1216 = room-left c.is_painted.result l.len 1216 (sym c.takes.ensures ∙ c.if-not-takes.false) in
     omega arith
 
 pub loop-i-preserved : goal.loop-i-preserved
@@ -69,7 +68,7 @@ loop-i-preserved c =
     let c₀ = get_or a.items.now l.i [] in
     let q = get_or a.rects.now l.i [] in
     subst (λ (x : List FrameItemId). Going paint_of 1216 a.items.now a.rects.now a.n (map item_of (replicate 1216 c.painted_of-none.result)) x (l.len + 1) (l.i + 1)) (sym (map-set item_of l.at l.len c.painted_of-p.result))
-    (going-take paint_of 1216 a.items.now a.rects.now a.n li lr (map item_of (replicate 1216 c.painted_of-none.result)) (map item_of l.at) l.len l.i c.loop-i-test.true l.invariant (painted_from c₀) (painted (get_or c₀ 0 0)) (paint-by c₀ q (get_or c₀ 0 0)) (sym (c.takes.ensures ∙ ap (λ (b : Bool). b && ltb l.len 1216) c.is_painted.ensures) ∙ not-false c.takes.result c.if-not-takes.false) (item_of c.painted_of-p.result) c.painted_of-p.ensures)
+    (going-take paint_of 1216 a.items.now a.rects.now a.n li lr (map item_of (replicate 1216 c.painted_of-none.result)) (map item_of l.at) l.len l.i c.loop-i-test.true l.invariant (painted_from c₀) (painted (get_or c₀ 0 0)) (paint-by c₀ q (get_or c₀ 0 0)) (sym (c.takes.ensures ∙ ap (λ (b : Bool). b && ltb l.len 1216) c.is_painted.ensures) ∙ c.if-not-takes.false) (item_of c.painted_of-p.result) c.painted_of-p.ensures)
 
 pub returns : goal.returns
 returns c =

@@ -4,4 +4,4 @@ use Rattle.rules.specs.Tree.{tile}
 use Rattle.items.proofs.decode.bar_of.Goals as goal
 
 pub returns : goal.returns
-returns c = let t = c.args.t1 in λ z. record { group = tile (get_or t 1 0); rect = c.rect_of-rect.ensures z; placement = c.bar_of-placement.ensures z; active_pane = get_or t 2 0 }
+returns c = let t = c.args.row in λ z. record { group = tile (get_or t 1 0); rect = c.rect_of-rect.ensures z; placement = c.bar_of-placement.ensures z; active_pane = get_or t 2 0 }

@@ -4,4 +4,4 @@ use Rattle.rules.specs.Tree.{tile}
 use Rattle.items.proofs.decode.handle_of.Goals as goal
 
 pub returns : goal.returns
-returns c = let t = c.args.t1 in λ z. record { split = tile (get_or t 1 0); handle = get_or t 3 0; axis = c.axis_of-axis.ensures z; rect = c.rect_of-rect.ensures z }
+returns c = let t = c.args.row in λ z. record { split = tile (get_or t 1 0); handle = get_or t 3 0; axis = c.axis_of-axis.ensures z; rect = c.rect_of-rect.ensures z }

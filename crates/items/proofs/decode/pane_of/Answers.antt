@@ -4,4 +4,4 @@ use Rattle.rules.specs.Tree.{tile}
 use Rattle.items.proofs.decode.pane_of.Goals as goal
 
 pub returns : goal.returns
-returns c = let t = c.args.t1 in λ z. record { pane = get_or t 2 0; tile = tile (get_or t 1 0); rect = c.rect_of-rect.ensures z }
+returns c = let t = c.args.row in λ z. record { pane = get_or t 2 0; tile = tile (get_or t 1 0); rect = c.rect_of-rect.ensures z }

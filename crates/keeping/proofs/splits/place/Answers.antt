@@ -8,7 +8,7 @@ use Rattle.keeping.proofs.splits.place.Goals as goal
 pub returns-in-At : goal.returns-in-At
 returns-in-At c =
     let a = c.args in
-    let q = c.kept-1.given.1 in
+    let q = c.in-At.is in
     let E = c.place_at.ensures in
     (E.0, λ cs seen e ps pm Z room. placed-kept q (E.1 cs seen e ps pm Z (room-kept a.c.acts (19 * free cs) q room)))
 
@@ -18,9 +18,9 @@ returns-in-Gone c =
     let L = c.requires.5 in (
       lent-moved a.cs.now a.ss.now a.ms.now a.t.len a.t.moved L,
       λ cs seen e ps pm Z room.
-          placed-kept c.enum_told-1.given.1
+          placed-kept c.in-Gone.is
           (placed-gone (cols a.heads.now a.ids.now a.shares.now a.minima.now cs seen a.acts.now a.c) Z a.mode e a.cs.now a.ss.now a.ms.now a.t.len a.t.moved L),
     )
 
 pub returns-in-Wide : goal.returns-in-Wide
-returns-in-Wide c = absurd (c.requires.7 c.enum_told-in-Wide-1.given.1)
+returns-in-Wide c = absurd (c.requires.7 c.in-Wide.is)

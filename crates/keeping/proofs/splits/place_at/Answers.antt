@@ -1,7 +1,6 @@
 -- `keeping::splits::place_at`: a child melted in, or placed as it is. Assumes nothing.
 use mathlib.Core.Path.{refl, sym, ◌∙◌}
 use native.Mathlib.Omega.{arith}
-use borrow.Author.Tests.{not-true, not-false}
 use Rattle.rules.specs.Tree.{tile}
 use Rattle.rules.specs.declared.model.RepairAction.TheVariants.{CollapsedSplit}
 use Rattle.sifting.specs.Work.{cols}
@@ -28,7 +27,7 @@ returns-then-not-is_meltable c =
       λ cs seen e ps pm Z room.
           placed_one (cols a.heads.now a.ids.now a.shares.now a.minima.now cs seen a.acts.now a.c) Z a.mode e (kids_in a.cs.now a.ss.now a.ms.now a.t.len a.t.moved) a.share a.minimum ps pm a.id
           (kids_in r.new.0 r.new.1.0 r.new.1.1.0 r.result.tally.len r.result.tally.moved) r.result.counts r.result.wide r.ensures
-          (sym (c.is_meltable.ensures _ _ _) ∙ not-true _ c.if-not-is_meltable.true),
+          (sym (c.is_meltable.ensures _ _ _) ∙ c.if-not-is_meltable.true),
     )
 
 pub load-given-requires : goal.load-given-requires
@@ -43,7 +42,7 @@ returns-then-p c =
       λ cs seen e ps pm Z room.
           placed-over (cols a.heads.now a.ids.now a.shares.now a.minima.now cs seen a.acts.now a.c) Z a.mode e (kids_in a.cs.now a.ss.now a.ms.now a.t.len a.t.moved) a.share a.minimum ps pm a.id
           c.load-given.result c.load-given.ensures (kids_in r.new.0 r.new.1.0 r.new.1.1.0 r.result.tally.len r.result.tally.moved) r.result.counts r.result.wide r.ensures
-          (sym (c.is_meltable.ensures _ _ _) ∙ not-false _ c.if-not-is_meltable.false) c.if-p.true,
+          (sym (c.is_meltable.ensures _ _ _) ∙ c.if-not-is_meltable.false) c.if-p.true,
     )
 
 pub returns : goal.returns
@@ -54,6 +53,6 @@ returns c =
       λ cs seen e ps pm Z room.
           placed-melted (cols a.heads.now a.ids.now a.shares.now a.minima.now cs seen a.acts.now a.c) Z a.mode e (kids_in a.cs.now a.ss.now a.ms.now a.t.len a.t.moved) a.share a.minimum ps pm a.id
           c.load-given.result c.load-given.ensures (kids_in r.new.0 r.new.1.0 r.new.1.1.0 r.result.tally.len r.result.tally.moved) r.result.counts r.result.wide r.ensures
-          (sym (c.is_meltable.ensures _ _ _) ∙ not-false _ c.if-not-is_meltable.false) c.if-p.false room _ c.note-n.result
+          (sym (c.is_meltable.ensures _ _ _) ∙ c.if-not-is_meltable.false) c.if-p.false room _ c.note-n.result
           (c.note-n.ensures (CollapsedSplit (tile a.id)) refl refl refl),
     )

@@ -1,4 +1,5 @@
 -- `lending::back::fit_all` makes one head after another, in place. Assumes nothing.
+use mathlib.Core.List.{[]}
 use native.Mathlib.Omega.{arith}
 use lib.ListN.{length-set}
 use Rattle.lending.specs.Back.{fitted}

@@ -6,7 +6,6 @@ use lib.ListN.{length}
 use lib.Ieee.{nan}
 use Rattle.rules.specs.Numbers.{share_ok}
 use Rattle.loops.proofs.Loops.{tested-step, tested-fails, tested-end}
-use Rattle.loops.proofs.Branches.{not-true, not-false}
 use Rattle.loops.proofs.tests.shares_ok.Goals as goal
 
 pub loop-i-init : goal.loop-i-init
@@ -17,14 +16,14 @@ returns-then-not-share_ok c =
     let r = c.share_ok in
     let a = c.args in
     let h : a.n ≤ length a.xs.now = omega (arith, c.requires.0, c.requires.1) in
-    tested-fails share_ok a.xs.now a.n c.loop-i.i nan r.result c.loop-i-test.true h r.ensures (not-true r.result c.if-not-share_ok.true) c.loop-i.invariant.1
+    tested-fails share_ok a.xs.now a.n c.loop-i.i nan r.result c.loop-i-test.true h r.ensures c.if-not-share_ok.true c.loop-i.invariant.1
 
 pub loop-i-preserved : goal.loop-i-preserved
 loop-i-preserved c =
     let r = c.share_ok in
     let a = c.args in
     let h : a.n ≤ length a.xs.now = omega (arith, c.requires.0, c.requires.1) in
-    (omega arith, tested-step share_ok a.xs.now a.n c.loop-i.i nan r.result c.loop-i-test.true h r.ensures (not-false r.result c.if-not-share_ok.false) c.loop-i.invariant.1)
+    (omega arith, tested-step share_ok a.xs.now a.n c.loop-i.i nan r.result c.loop-i-test.true h r.ensures c.if-not-share_ok.false c.loop-i.invariant.1)
 
 pub returns : goal.returns
 returns c =

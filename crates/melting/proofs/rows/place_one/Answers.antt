@@ -1,6 +1,6 @@
 -- `melting::rows::place_one` pushes a child where there is room. Assumes nothing.
 use mathlib.Core.Path.{refl}
-use mathlib.Core.List.{◌∷◌}
+use mathlib.Core.List.{[], ◌∷◌}
 use native.Mathlib.Omega.{arith}
 use Rattle.rules.specs.Tree.{tile}
 use Rattle.rules.specs.Repair.{entry}

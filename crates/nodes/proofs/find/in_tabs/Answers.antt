@@ -8,8 +8,8 @@ use Rattle.nodes.proofs.find.in_tabs.Goals as goal
 
 pub returns-in-At : goal.returns-in-At
 returns-in-At c =
-    ap (λ (o : Option ℕ). tabs_have o c.args.group nowhere) (sym (ap place_of c.place-1.given.1) ∙ c.position-place.ensures)
+    ap (λ (o : Option ℕ). tabs_have o c.args.group nowhere) (sym (ap place_of c.in-At.is) ∙ c.position-place.ensures)
 
 pub returns-in-Nothing : goal.returns-in-Nothing
 returns-in-Nothing c =
-    ap (λ (o : Option ℕ). tabs_have o c.args.group nowhere) (sym (ap place_of c.enum_told-1.given.1) ∙ c.position-place.ensures)
+    ap (λ (o : Option ℕ). tabs_have o c.args.group nowhere) (sym (ap place_of c.in-Nothing.is) ∙ c.position-place.ensures)

@@ -1,5 +1,6 @@
 -- `nodes::find::pane_in` goes by the row's kind. Assumes nothing.
 use mathlib.Core.Path.{◌∙◌}
+use mathlib.Core.List.{[]}
 use lib.ListN.{get_or}
 use Rattle.rules.specs.Tree.{tile}
 use Rattle.nodes.proofs.FindLaws.{head_few, row-pane, row-tabs, row-nowhere}

@@ -1,5 +1,6 @@
 -- `nodes::find::place_in` searches the children of a split's row. Assumes nothing.
 use mathlib.Core.Path.{◌∙◌}
+use mathlib.Core.List.{[]}
 use lib.ListN.{get_or}
 use Rattle.nodes.proofs.FindLaws.{head_few, row-kids, row-childless}
 use Rattle.nodes.proofs.find.place_in.Goals as goal

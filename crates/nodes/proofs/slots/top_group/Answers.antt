@@ -1,5 +1,6 @@
 -- `nodes::slots::top_group` meets its contract. Assumes nothing.
 use borrow.Author.Tests.{le-ltb}
+use mathlib.Core.List.{[]}
 use native.Mathlib.Omega.{arith}
 use Rattle.rules.specs.Tree.{tabs}
 use Rattle.rules.specs.declared.model.TabBarPlacement.TheVariants.{Top}

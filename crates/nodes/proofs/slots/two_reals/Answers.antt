@@ -1,5 +1,5 @@
 -- `nodes::slots::two_reals` pushes twice. Assumes nothing.
-use mathlib.Core.List.{◌∷◌}
+use mathlib.Core.List.{[], ◌∷◌}
 use Rattle.lists.specs.Build.{exactly-push}
 use native.Mathlib.Omega.{arith}
 use Rattle.nodes.proofs.slots.two_reals.Goals as goal

@@ -19,22 +19,22 @@ pub removed_from-left-requires : goal.removed_from-left-requires
 removed_from-left-requires c =
     let x = c.args in
     let ns = nodes_from x.heads.now x.ids.now x.shares.now x.minima.now in
-    (subst (λ (n : Node). c.l-in-InTabs-1.given.0.1.0 < length (panes_of n)) (sym c.get_node-s.ensures.0) (subst (λ (y : Location). Stands ns (location_of y)) c.l-in-InTabs-1.given.1 c.requires.1).1, c.get_node-s.ensures.1)
+    (subst (λ (n : Node). c.in-InTabs.index < length (panes_of n)) (sym c.get_node-s.ensures.0) (subst (λ (y : Location). Stands ns (location_of y)) c.in-InTabs.is c.requires.1).1, c.get_node-s.ensures.1)
 
 pub returns-in-Nowhere : goal.returns-in-Nowhere
 returns-in-Nowhere c =
     let x = c.args in
     let ns = nodes_from x.heads.now x.ids.now x.shares.now x.minima.now in
-    (ap (λ (y : Location). remove_pane (location_of y) ns) (sym c.enum_told-1.given.1), c.requires.0)
+    (ap (λ (y : Location). remove_pane (location_of y) ns) (sym c.in-Nowhere.is), c.requires.0)
 
 pub returns-in-Tile : goal.returns-in-Tile
 returns-in-Tile c =
     let x = c.args in
     let ns = nodes_from x.heads.now x.ids.now x.shares.now x.minima.now in
-    (c.set_node.ensures.0 ∙ ap (λ (n : Node). set_node c.l-1.given.0.0 n ns) (bare-view c.bare_slot-none.result Empty c.bare_slot-none.ensures) ∙ ap (λ (y : Location). remove_pane (location_of y) ns) (sym c.l-1.given.1), c.set_node.ensures.1)
+    (c.set_node.ensures.0 ∙ ap (λ (n : Node). set_node c.in-Tile.tile n ns) (bare-view c.bare_slot-none.result Empty c.bare_slot-none.ensures) ∙ ap (λ (y : Location). remove_pane (location_of y) ns) (sym c.in-Tile.is), c.set_node.ensures.1)
 
 pub returns-in-InTabs : goal.returns-in-InTabs
 returns-in-InTabs c =
     let x = c.args in
     let ns = nodes_from x.heads.now x.ids.now x.shares.now x.minima.now in
-    (c.set_node-in-InTabs.ensures.0 ∙ ap (λ (n : Node). set_node c.l-in-InTabs-1.given.0.0 n ns) (c.removed_from-left.ensures.0 ∙ ap (removed_from c.l-in-InTabs-1.given.0.1.0) c.get_node-s.ensures.0) ∙ ap (λ (y : Location). remove_pane (location_of y) ns) (sym c.l-in-InTabs-1.given.1), c.set_node-in-InTabs.ensures.1)
+    (c.set_node-in-InTabs.ensures.0 ∙ ap (λ (n : Node). set_node c.in-InTabs.group n ns) (c.removed_from-left.ensures.0 ∙ ap (removed_from c.in-InTabs.index) c.get_node-s.ensures.0) ∙ ap (λ (y : Location). remove_pane (location_of y) ns) (sym c.in-InTabs.is), c.set_node-in-InTabs.ensures.1)

@@ -9,22 +9,22 @@ pub returns-then-is_valid_split_fraction : goal.returns-then-is_valid_split_frac
 returns-then-is_valid_split_fraction c =
     let x = c.args in
     let ns = nodes_from x.heads.now x.ids.now x.shares.now x.minima.now in
-    c.is_there.ensures ∙ ap existing c.get_node-s.ensures.0 ∙ ratio-good ns _ _ _ _ (sym c.is_valid_split_fraction.ensures ∙ c.if-is_valid_split_fraction.true) ∙ ap (validate_target ns) (sym c.target-1.given.1)
+    c.is_there.ensures ∙ ap existing c.get_node-s.ensures.0 ∙ ratio-good ns _ _ _ _ (sym c.is_valid_split_fraction.ensures ∙ c.if-is_valid_split_fraction.true) ∙ ap (validate_target ns) (sym c.in-Split.is)
 
 pub returns-in-Root : goal.returns-in-Root
 returns-in-Root c =
     let x = c.args in
     let ns = nodes_from x.heads.now x.ids.now x.shares.now x.minima.now in
-    target-root ns ∙ ap (validate_target ns) (sym c.enum_told-1.given.1)
+    target-root ns ∙ ap (validate_target ns) (sym c.in-Root.is)
 
 pub returns-else-is_valid_split_fraction : goal.returns-else-is_valid_split_fraction
 returns-else-is_valid_split_fraction c =
     let x = c.args in
     let ns = nodes_from x.heads.now x.ids.now x.shares.now x.minima.now in
-    ratio-bad ns _ _ _ _ (sym c.is_valid_split_fraction.ensures ∙ c.if-is_valid_split_fraction.false) ∙ ap (validate_target ns) (sym c.target-1.given.1)
+    ratio-bad ns _ _ _ _ (sym c.is_valid_split_fraction.ensures ∙ c.if-is_valid_split_fraction.false) ∙ ap (validate_target ns) (sym c.in-Split.is)
 
 pub returns-in-TabInto : goal.returns-in-TabInto
 returns-in-TabInto c =
     let x = c.args in
     let ns = nodes_from x.heads.now x.ids.now x.shares.now x.minima.now in
-    c.is_group.ensures ∙ ap a_group c.get_node-s-in-TabInto.ensures.0 ∙ target-group ns _ _ ∙ ap (validate_target ns) (sym c.target-in-TabInto-1.given.1)
+    c.is_group.ensures ∙ ap a_group c.get_node-s-in-TabInto.ensures.0 ∙ target-group ns _ _ ∙ ap (validate_target ns) (sym c.in-TabInto.is)

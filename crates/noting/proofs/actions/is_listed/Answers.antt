@@ -1,4 +1,5 @@
 -- `noting::actions::is_listed` passes one action after another until one is the same. Assumes nothing.
+use mathlib.Core.List.{[]}
 use mathlib.Core.Path.{refl, sym, ◌∙◌}
 use native.Mathlib.Omega.{arith}
 use Rattle.columns.specs.Columns.{is_code}

@@ -1,5 +1,6 @@
 -- `noting::listing::report` makes one action after another. Assumes nothing.
 use mathlib.Core.Path.{refl}
+use mathlib.Core.List.{[]}
 use native.Mathlib.Omega.{arith}
 use lib.ListN.{length-replicate}
 use Rattle.columns.specs.Pack.{listed_from}

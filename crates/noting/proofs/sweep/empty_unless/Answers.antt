@@ -1,6 +1,7 @@
 -- `noting::sweep::empty_unless` empties a head that is not kept. Assumes nothing.
 use mathlib.Core.Path.{sym, ap, ◌∙◌}
 use mathlib.Core.Bool.{Bool}
+use mathlib.Core.List.{[]}
 use lib.ListN.{get_or, set}
 use lib.Seq.{set-get_or}
 use Rattle.columns.specs.Pack.{swept_head}

@@ -24,7 +24,7 @@ pub returns-in-Accepted : goal.returns-in-Accepted
 returns-in-Accepted c =
     let x = c.args in
     let S = c.settle-done.ensures in
-    let yes = c.enum_told-1.given.1 in
+    let yes = c.in-Accepted.is in
     let lt : x.revision < last-revision = omega (arith, c.if-revision-eq18446744073709551615.false) in
     λ a s e M.
     let k = S.right (suc a.revision) M.change.free M.inside M.first in
@@ -40,4 +40,4 @@ returns-in-Refused c =
     let lt : x.revision < last-revision = omega (arith, c.if-revision-eq18446744073709551615.false) in
     λ a s e M.
     let k = S.right (suc a.revision) M.change.free M.inside M.first in
-    comes-refused a (Rule.finish a s) c.refused-in-Refused.result _ _ _ _ _ (change-refused x.heads.now x.ids.now x.shares.now x.minima.now c.requires a s x.top x.spare M (omega (arith, lt, e)) _ (sym k.answer ∙ c.answer-1.given.1)) c.refused-in-Refused.ensures.0 c.refused-in-Refused.ensures.1
+    comes-refused a (Rule.finish a s) c.refused-in-Refused.result _ _ _ _ _ (change-refused x.heads.now x.ids.now x.shares.now x.minima.now c.requires a s x.top x.spare M (omega (arith, lt, e)) _ (sym k.answer ∙ c.in-Refused.is)) c.refused-in-Refused.ensures.0 c.refused-in-Refused.ensures.1

@@ -6,4 +6,4 @@ use Rattle.rules.specs.declared.model.Kind.{Kind}
 use Rattle.parting.proofs.splits.has_axis.Goals as goal
 
 pub returns-in-Split : goal.returns-in-Split
-returns-in-Split c = c.same_axis.ensures ∙ ap (λ (k : Kind). has_axis c.args.axis (node_of k c.args.s)) (sym c.k-1.given.1)
+returns-in-Split c = c.same_axis.ensures ∙ ap (λ (k : Kind). has_axis c.args.axis (node_of k c.args.s)) (sym c.in-Split.is)

@@ -7,9 +7,9 @@ use Rattle.placing.proofs.splits.along_rect.Goals as goal
 pub returns-in-Horizontal : goal.returns-in-Horizontal
 returns-in-Horizontal c =
     let a = c.args in
-    sym (ap (λ (x : Axis). along_rect x a.rect a.at a.size) c.enum_told-1.given.1)
+    sym (ap (λ (x : Axis). along_rect x a.rect a.at a.size) c.in-Horizontal.is)
 
 pub returns-in-Vertical : goal.returns-in-Vertical
 returns-in-Vertical c =
     let a = c.args in
-    sym (ap (λ (x : Axis). along_rect x a.rect a.at a.size) c.enum_told-in-Vertical-1.given.1)
+    sym (ap (λ (x : Axis). along_rect x a.rect a.at a.size) c.in-Vertical.is)

@@ -17,22 +17,22 @@ pub loop-j-init : goal.loop-j-init
 unfolding pad_to of_bits
 loop-j-init c =
     let a = c.args in
-    let s : length a.t1.at ≡ 16 = search rules in
-    let h : a.t1.len ≤ length a.t1.at = omega arith in
-    building-start zero-f (take a.n (reals a.t1)) _ _ (omega (arith, size-take a.t1.len a.t1.at h a.n (omega arith))) (omega arith) refl
+    let s : length a.l.at ≡ 16 = search rules in
+    let h : a.l.len ≤ length a.l.at = omega arith in
+    building-start zero-f (take a.n (reals a.l)) _ _ (omega (arith, size-take a.l.len a.l.at h a.n (omega arith))) (omega arith) refl
 
 pub loop-j-preserved : goal.loop-j-preserved
 loop-j-preserved c =
     let a = c.args in
     let l = c.loop-j in
     let h = c.loop-j-test.true in
-    let s : length a.t1.at ≡ 16 = search rules in
-    let i : l.j < a.t1.len = omega arith in
-    building-more zero-f (take a.n (reals a.t1)) l.at _ l.j (get_or a.t1.at l.j nan) l.invariant h
-    (get_d-used a.t1.len a.t1.at l.j zero-f nan i (omega arith) ∙ sym (get_or-take a.n (reals a.t1) l.j zero-f h))
+    let s : length a.l.at ≡ 16 = search rules in
+    let i : l.j < a.l.len = omega arith in
+    building-more zero-f (take a.n (reals a.l)) l.at _ l.j (get_or a.l.at l.j nan) l.invariant h
+    (get_d-used a.l.len a.l.at l.j zero-f nan i (omega arith) ∙ sym (get_or-take a.n (reals a.l) l.j zero-f h))
 
 pub returns : goal.returns
 returns c =
     let a = c.args in
     let l = c.loop-j in
-    building-done zero-f (take a.n (reals a.t1)) l.at _ l.j l.invariant c.loop-j-test.false
+    building-done zero-f (take a.n (reals a.l)) l.at _ l.j l.invariant c.loop-j-test.false

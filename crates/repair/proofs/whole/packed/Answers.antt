@@ -5,15 +5,15 @@ use Rattle.repair.proofs.whole.packed.Goals as goal
 
 pub pack-slots-requires : goal.pack-slots-requires
 pack-slots-requires c =
-    let p = c.requires.plain c.enum_told-1.given.1 in
+    let p = c.requires.plain c.in-Accepted.is in
     (p.heads, p.ids, p.shares, p.minima)
 
 pub returns-in-Accepted : goal.returns-in-Accepted
 returns-in-Accepted c =
     let x = c.args in
-    packs-accepted x.t x.s x.heads.now x.ids.now x.shares.now x.minima.now x.acts.now _ c.enum_told-1.given.1 refl refl refl c.pack-slots.ensures c.report-actions.ensures.0
+    packs-accepted x.t x.s x.heads.now x.ids.now x.shares.now x.minima.now x.acts.now _ c.in-Accepted.is refl refl refl c.pack-slots.ensures c.report-actions.ensures.0
 
 pub returns-in-Refused : goal.returns-in-Refused
 returns-in-Refused c =
     let x = c.args in
-    packs-refused x.t x.s x.heads.now x.ids.now x.shares.now x.minima.now x.acts.now c.refused.result c.answer-1.given.0.0 c.answer-1.given.1 c.refused.ensures
+    packs-refused x.t x.s x.heads.now x.ids.now x.shares.now x.minima.now x.acts.now c.refused.result c.in-Refused.e c.in-Refused.is c.refused.ensures

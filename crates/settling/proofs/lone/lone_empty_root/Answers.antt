@@ -1,7 +1,6 @@
 -- `settling::lone::lone_empty_root` meets its contract: the root's head, then the others. Assumes nothing.
 use mathlib.Core.Path.{sym, ◌∙◌}
 use native.Mathlib.Omega.{arith}
-use borrow.Author.Tests.{not-true, not-false}
 use Rattle.settling.proofs.LoneLaws.{lone-out, lone-not, lone-by}
 use Rattle.settling.proofs.lone.lone_empty_root.Goals as goal
 
@@ -14,10 +13,10 @@ pub returns-then-not-is_blank : goal.returns-then-not-is_blank
 returns-then-not-is_blank c =
     let x = c.args in
     λ v. lone-not x.root v x.heads.now x.ids.now x.shares.now x.minima.now c.requires (c.root_row.ensures (omega (arith, c.if-root-ge64.false)))
-    (sym c.is_blank.ensures ∙ not-true c.is_blank.result c.if-not-is_blank.true)
+    (sym c.is_blank.ensures ∙ c.if-not-is_blank.true)
 
 pub returns : goal.returns
 returns c =
     let x = c.args in
     λ v. lone-by x.root v x.heads.now x.ids.now x.shares.now x.minima.now c.requires (c.root_row.ensures (omega (arith, c.if-root-ge64.false)))
-    (sym c.is_blank.ensures ∙ not-false c.is_blank.result c.if-not-is_blank.false) c.none_lost.result c.none_lost.ensures
+    (sym c.is_blank.ensures ∙ c.if-not-is_blank.false) c.none_lost.result c.none_lost.ensures

@@ -30,9 +30,9 @@ returns-in-At c =
 pub returns-in-Gone : goal.returns-in-Gone
 returns-in-Gone c =
     let x = c.args in
-    ends-gone x.root x.heads.now x.ids.now x.shares.now x.minima.now c.requires.0 _ _ _ c.normalize_node-w.result.kept c.normalize_node-w.ensures x.spare _ _ c.plant.result c.enum_told-1.given.1 c.plant.ensures
+    ends-gone x.root x.heads.now x.ids.now x.shares.now x.minima.now c.requires.0 _ _ _ c.normalize_node-w.result.kept c.normalize_node-w.ensures x.spare _ _ c.plant.result c.in-Gone.is c.plant.ensures
 
 pub returns-in-Wide : goal.returns-in-Wide
 returns-in-Wide c =
     let x = c.args in
-    ends-wide x.root x.heads.now x.ids.now x.shares.now x.minima.now c.requires.0 _ _ _ c.normalize_node-w.result.kept c.normalize_node-w.ensures x.spare _ _ c.refused.result c.enum_told-in-Wide-1.given.1 c.refused.ensures
+    ends-wide x.root x.heads.now x.ids.now x.shares.now x.minima.now c.requires.0 _ _ _ c.normalize_node-w.result.kept c.normalize_node-w.ensures x.spare _ _ c.refused.result c.in-Wide.is c.refused.ensures

@@ -1,6 +1,6 @@
 -- `sifting::leaves::group_step` claims the slot, keeps the panes not seen before, and stores what is left. Assumes nothing.
 use mathlib.Core.Path.{refl}
-use mathlib.Core.List.{◌∷◌}
+use mathlib.Core.List.{[], ◌∷◌}
 use Prim.Native.Nat.{◌≤◌, ◌<◌, ◌+◌}
 use native.Mathlib.Omega.{arith}
 use lib.ListN.{get_or, replicate}

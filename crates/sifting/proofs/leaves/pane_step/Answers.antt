@@ -1,4 +1,5 @@
 -- `sifting::leaves::pane_step` claims the slot; the first sight of a pane wins. Assumes nothing.
+use mathlib.Core.List.{[]}
 use mathlib.Core.Path.{refl, sym, ◌∙◌}
 use Prim.Native.Nat.{◌<◌}
 use native.Mathlib.Omega.{arith}

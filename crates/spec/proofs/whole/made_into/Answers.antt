@@ -3,12 +3,12 @@ use Rattle.spec.specs.Whole.{whole-accepted, whole-refused}
 use Rattle.spec.proofs.whole.made_into.Goals as goal
 
 pub mended-requires : goal.mended-requires
-mended-requires c = c.build_into-answer.ensures.plain c.enum_told-1.given.1
+mended-requires c = c.build_into-answer.ensures.plain c.in-Accepted.is
 
 pub returns-in-Accepted : goal.returns-in-Accepted
 returns-in-Accepted c =
     let d = c.build_into-answer in
-    whole-accepted c.args.b.now _ _ _ _ _ d.ensures c.enum_told-1.given.1 _ _ _ _ _ _ c.mended.ensures
+    whole-accepted c.args.b.now _ _ _ _ _ d.ensures c.in-Accepted.is _ _ _ _ _ _ c.mended.ensures
 
 pub returns-in-Refused : goal.returns-in-Refused
-returns-in-Refused c = whole-refused c.args.b.now _ _ _ _ _ c.build_into-answer.ensures _ c.enum_told-in-Refused-1.given.1
+returns-in-Refused c = whole-refused c.args.b.now _ _ _ _ _ c.build_into-answer.ensures _ c.in-Refused.is

@@ -3,8 +3,8 @@ use Rattle.spec.specs.Whole.{in-accepted, in-refused}
 use Rattle.spec.proofs.whole.spec_into.Goals as goal
 
 pub returns-in-Accepted : goal.returns-in-Accepted
-returns-in-Accepted c = in-accepted _ _ _ _ _ _ _ c.made_into-r.ensures c.enum_told-1.given.1
+returns-in-Accepted c = in-accepted _ _ _ _ _ _ _ c.made_into-r.ensures c.in-Accepted.is
 
 pub returns-in-Refused : goal.returns-in-Refused
 returns-in-Refused c =
-    in-refused _ _ _ _ _ _ _ c.made_into-r.ensures _ c.enum_told-in-Refused-1.given.1 _ _ _ _ c.lone.ensures
+    in-refused _ _ _ _ _ _ _ c.made_into-r.ensures _ c.in-Refused.is _ _ _ _ c.lone.ensures

@@ -6,16 +6,16 @@ use Rattle.rules.specs.declared.model.TabBarPlacement.TheVariants.{Hidden}
 use Rattle.streaming.proofs.tabs.is_hidden.Goals as goal
 
 pub returns-in-Hidden : goal.returns-in-Hidden
-returns-in-Hidden c = sym (ap (λ (p : TabBarPlacement). same_placement p Hidden) c.enum_told-1.given.1)
+returns-in-Hidden c = sym (ap (λ (p : TabBarPlacement). same_placement p Hidden) c.in-Hidden.is)
 
 pub returns-in-Top : goal.returns-in-Top
-returns-in-Top c = sym (ap (λ (p : TabBarPlacement). same_placement p Hidden) c.enum_told-in-Top-1.given.1)
+returns-in-Top c = sym (ap (λ (p : TabBarPlacement). same_placement p Hidden) c.in-Top.is)
 
 pub returns-in-Bottom : goal.returns-in-Bottom
-returns-in-Bottom c = sym (ap (λ (p : TabBarPlacement). same_placement p Hidden) c.enum_told-in-Bottom-1.given.1)
+returns-in-Bottom c = sym (ap (λ (p : TabBarPlacement). same_placement p Hidden) c.in-Bottom.is)
 
 pub returns-in-Left : goal.returns-in-Left
-returns-in-Left c = sym (ap (λ (p : TabBarPlacement). same_placement p Hidden) c.enum_told-in-Left-1.given.1)
+returns-in-Left c = sym (ap (λ (p : TabBarPlacement). same_placement p Hidden) c.in-Left.is)
 
 pub returns-in-Right : goal.returns-in-Right
-returns-in-Right c = sym (ap (λ (p : TabBarPlacement). same_placement p Hidden) c.enum_told-in-Right-1.given.1)
+returns-in-Right c = sym (ap (λ (p : TabBarPlacement). same_placement p Hidden) c.in-Right.is)

@@ -6,4 +6,4 @@ use Rattle.rules.specs.declared.model.Kind.{Kind}
 use Rattle.tabbing.proofs.groups.active_is.Goals as goal
 
 pub returns-in-Tabs : goal.returns-in-Tabs
-returns-in-Tabs c = let x = c.args in ap (λ (k : Kind). active_is x.index (node_of k x.s)) (sym c.enum_told-in-Tabs-1.given.1)
+returns-in-Tabs c = let x = c.args in ap (λ (k : Kind). active_is x.index (node_of k x.s)) (sym c.in-Tabs.is)

@@ -9,4 +9,4 @@ use Rattle.tabbing.proofs.groups.clamped.Goals as goal
 pub returns-in-At : goal.returns-in-At
 returns-in-At c =
     let x = c.args in
-    (c.lesser.ensures ∙ ap (λ (t : TabIndex). clamped t x.n) (sym c.index-1.given.1), subst (λ (k : ℕ). k ≤ x.n) (sym c.lesser.ensures) (min-le_right _ x.n))
+    (c.lesser.ensures ∙ ap (λ (t : TabIndex). clamped t x.n) (sym c.in-At.is), subst (λ (k : ℕ). k ≤ x.n) (sym c.lesser.ensures) (min-le_right _ x.n))

@@ -8,15 +8,15 @@ use Rattle.tabbing.proofs.groups.tabbed_in.Goals as goal
 
 pub insert-more-requires : goal.insert-more-requires
 insert-more-requires c =
-    (c.clamped-place.ensures.1, roomy c.args.s _ c.enum_told-in-Tabs-1.given.1 c.requires.1)
+    (c.clamped-place.ensures.1, roomy c.args.s _ c.in-Tabs.is c.requires.1)
 
 pub returns-in-Tabs : goal.returns-in-Tabs
 returns-in-Tabs c =
     let x = c.args in
-    let e = c.enum_told-in-Tabs-1.given.1 in
+    let e = c.in-Tabs.is in
     tabbed x.s _ _ e refl x.pane x.index c.requires.2.panes (tabs-few x.s _ e c.requires.0) c.clamped-place.ensures.0 c.clamped-place.result c.clamped-place.ensures.0 c.insert-more.ensures
 
 pub returns-in-Split : goal.returns-in-Split
 returns-in-Split c =
     let x = c.args in
-    (unmoved (tabbed_in x.pane x.index) x.s (Split _) c.enum_told-in-Split-1.given.1 refl, c.requires.0)
+    (unmoved (tabbed_in x.pane x.index) x.s (Split _) c.in-Split.is refl, c.requires.0)

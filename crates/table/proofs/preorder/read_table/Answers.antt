@@ -8,13 +8,13 @@ use Rattle.table.proofs.preorder.read_table.Goals as goal
 pub returns-in_default : goal.returns-in_default
 returns-in_default c =
     let bytes = c.args.b.now in
-    (subst (λ (r : Sections). SectionsAre bytes r) c.enum_told-1.given.1 c.find_sections.ensures).is
+    (subst (λ (r : Sections). SectionsAre bytes r) c.in_default.is c.find_sections.ensures).is
 
 pub rows_fit-requires : goal.rows_fit-requires
 rows_fit-requires c =
     let at-find-sections = c.find_sections in
     let bytes = c.args.b.now in
-    let w = subst (λ (r : Sections). SectionsAre bytes r) c.t-1.given.1 at-find-sections.ensures in
+    let w = subst (λ (r : Sections). SectionsAre bytes r) c.in-Four.is at-find-sections.ensures in
     w.here
 
 pub returns-then-rows_fit : goal.returns-then-rows_fit

@@ -39,7 +39,7 @@ returns-in_default c =
     let at-loop-test = c.loop-i-test in
     let bytes = c.args.b.now in
     let t = c.args.t in
-    going-bad bytes t at-loop.i at-loop.due at-loop.panes at-loop.shares at-loop.minima at-loop.invariant at-loop-test.true (subst (λ (r : RowRead). ReadAt bytes (t.rows + 8 * at-loop.i) r) c.enum_told-1.given.1 c.row_at.ensures)
+    going-bad bytes t at-loop.i at-loop.due at-loop.panes at-loop.shares at-loop.minima at-loop.invariant at-loop-test.true (subst (λ (r : RowRead). ReadAt bytes (t.rows + 8 * at-loop.i) r) c.in_default.is c.row_at.ensures)
 
 pub overflow_sub-due : goal.overflow_sub-due
 overflow_sub-due c =
@@ -53,7 +53,7 @@ overflow_add-due c =
     let at-row-at = c.row_at in
     let bytes = c.args.b.now in
     let t = c.args.t in
-    let rd = subst (λ (r : RowRead). ReadAt bytes (t.rows + 8 * at-loop.i) r) c.row-1.given.1 at-row-at.ensures in
+    let rd = subst (λ (r : RowRead). ReadAt bytes (t.rows + 8 * at-loop.i) r) c.in-Row.is at-row-at.ensures in
     omega (arith, c.requires.rows.few, c.requires.rows.inside, at-loop-test.true, c.children_used.ensures, rd.small.children, at-loop.invariant.due-few)
 
 pub overflow_add-panes : goal.overflow_add-panes

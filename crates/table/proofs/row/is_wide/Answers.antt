@@ -6,7 +6,7 @@ use Rattle.table.specs.declared.row.TableRow.{TableRow}
 use Rattle.table.proofs.row.is_wide.Goals as goal
 
 pub returns-in-Tabs : goal.returns-in-Tabs
-returns-in-Tabs c = ap (λ (r : TableRow). wide_row (row_is r)) (sym c.r-1.given.1)
+returns-in-Tabs c = ap (λ (r : TableRow). wide_row (row_is r)) (sym c.in-Tabs.is)
 
 pub returns-in-Split : goal.returns-in-Split
-returns-in-Split c = ap (λ (r : TableRow). wide_row (row_is r)) (sym c.r-in-Split-1.given.1)
+returns-in-Split c = ap (λ (r : TableRow). wide_row (row_is r)) (sym c.in-Split.is)

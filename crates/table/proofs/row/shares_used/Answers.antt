@@ -6,4 +6,4 @@ use Rattle.table.specs.declared.row.TableRow.{TableRow}
 use Rattle.table.proofs.row.shares_used.Goals as goal
 
 pub returns-in-Split : goal.returns-in-Split
-returns-in-Split c = ap (λ (r : TableRow). shares_used (row_is r)) (sym c.r-1.given.1)
+returns-in-Split c = ap (λ (r : TableRow). shares_used (row_is r)) (sym c.in-Split.is)

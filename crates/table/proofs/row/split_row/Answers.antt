@@ -5,7 +5,7 @@ use Rattle.table.specs.RowLaws.{split_good, split-bad}
 use Rattle.table.proofs.row.split_row.Goals as goal
 
 pub returns-in-Axis : goal.returns-in-Axis
-returns-in-Axis c = let a = c.args in split_good c.axis-1.given.0.0 a.mode a.count a.extra a.minima (ap axis_is (sym c.axis-1.given.1) ∙ c.axis_of.ensures)
+returns-in-Axis c = let a = c.args in split_good c.in-Axis.axis a.mode a.count a.extra a.minima (ap axis_is (sym c.in-Axis.is) ∙ c.axis_of.ensures)
 
 pub returns-in-Bad : goal.returns-in-Bad
-returns-in-Bad c = let a = c.args in split-bad a.mode a.count a.extra a.minima (ap axis_is (sym c.enum_told-1.given.1) ∙ c.axis_of.ensures)
+returns-in-Bad c = let a = c.args in split-bad a.mode a.count a.extra a.minima (ap axis_is (sym c.in-Bad.is) ∙ c.axis_of.ensures)

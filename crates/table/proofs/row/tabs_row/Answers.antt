@@ -8,7 +8,7 @@ pub returns-then-minima-ne0 : goal.returns-then-minima-ne0
 returns-then-minima-ne0 c = let a = c.args in tabs-minima a.mode a.count a.extra a.minima c.if-minima-ne0.true
 
 pub returns-in-Bar : goal.returns-in-Bar
-returns-in-Bar c = let a = c.args in tabs-good c.placement-1.given.0.0 a.mode a.count a.extra a.minima c.if-minima-ne0.false (ap bar_is (sym c.placement-1.given.1) ∙ c.bar_of.ensures)
+returns-in-Bar c = let a = c.args in tabs-good c.in-Bar.placement a.mode a.count a.extra a.minima c.if-minima-ne0.false (ap bar_is (sym c.in-Bar.is) ∙ c.bar_of.ensures)
 
 pub returns-in-Bad : goal.returns-in-Bad
-returns-in-Bad c = let a = c.args in tabs-bad a.mode a.count a.extra a.minima c.if-minima-ne0.false (ap bar_is (sym c.enum_told-1.given.1) ∙ c.bar_of.ensures)
+returns-in-Bad c = let a = c.args in tabs-bad a.mode a.count a.extra a.minima c.if-minima-ne0.false (ap bar_is (sym c.in-Bad.is) ∙ c.bar_of.ensures)

@@ -10,21 +10,21 @@ use Rattle.table.proofs.sections.find_sections.Goals as goal
 pub returns-in_default : goal.returns-in_default
 returns-in_default c =
     let bytes = c.args.b.now in
-    let no1 = (subst (λ (f : Found). SectionAt bytes 0 f) c.enum_told-1.given.1 c.section_at.ensures).is in
+    let no1 = (subst (λ (f : Found). SectionAt bytes 0 f) c.in_default.is c.section_at.ensures).is in
     bad-rows bytes no1
 
 pub overflow_mul-row_count : goal.overflow_mul-row_count
 overflow_mul-row_count c =
     let at-section-at = c.section_at in
     let bytes = c.args.b.now in
-    let k1 = subst (λ (f : Found). SectionAt bytes 0 f) c.rows-1.given.1 at-section-at.ensures in
+    let k1 = subst (λ (f : Found). SectionAt bytes 0 f) c.in-At.is at-section-at.ensures in
     omega (arith, k1.here.few)
 
 pub overflow_add-rows : goal.overflow_add-rows
 overflow_add-rows c =
     let at-section-at = c.section_at in
     let bytes = c.args.b.now in
-    let k1 = subst (λ (f : Found). SectionAt bytes 0 f) c.rows-1.given.1 at-section-at.ensures in
+    let k1 = subst (λ (f : Found). SectionAt bytes 0 f) c.in-At.is at-section-at.ensures in
     omega (arith, k1.here.inside)
 
 pub returns-in_default-section_at : goal.returns-in_default-section_at
@@ -36,7 +36,7 @@ returns-in_default-section_at c =
     let n1 = at_rows.given.0.1.0 in
     let k1 = subst (λ (f : Found). SectionAt bytes 0 f) at_rows.given.1 at-section-at.ensures in
     let q2 = p1 + 8 * n1 in
-    let no2 = (subst (λ (f : Found). SectionAt bytes q2 f) c.enum_told-in_default-section_at-1.given.1 c.section_at-2.ensures).is in
+    let no2 = (subst (λ (f : Found). SectionAt bytes q2 f) c.in_default-section_at.is c.section_at-2.ensures).is in
     bad-panes bytes p1 n1 k1.is no2
 
 pub overflow_mul-pane_count : goal.overflow_mul-pane_count
@@ -47,7 +47,7 @@ overflow_mul-pane_count c =
     let p1 = at_rows.given.0.0 in
     let n1 = at_rows.given.0.1.0 in
     let q2 = p1 + 8 * n1 in
-    let k2 = subst (λ (f : Found). SectionAt bytes q2 f) c.panes-1.given.1 at-section-at2.ensures in
+    let k2 = subst (λ (f : Found). SectionAt bytes q2 f) c.in-At-section_at.is at-section-at2.ensures in
     omega (arith, k2.here.few)
 
 pub overflow_add-panes : goal.overflow_add-panes
@@ -58,7 +58,7 @@ overflow_add-panes c =
     let p1 = at_rows.given.0.0 in
     let n1 = at_rows.given.0.1.0 in
     let q2 = p1 + 8 * n1 in
-    let k2 = subst (λ (f : Found). SectionAt bytes q2 f) c.panes-1.given.1 at-section-at2.ensures in
+    let k2 = subst (λ (f : Found). SectionAt bytes q2 f) c.in-At-section_at.is at-section-at2.ensures in
     omega (arith, k2.here.inside)
 
 pub returns-in_default-section_at-2 : goal.returns-in_default-section_at-2
@@ -76,7 +76,7 @@ returns-in_default-section_at-2 c =
     let q2 = p1 + 8 * n1 in
     let k2 = subst (λ (f : Found). SectionAt bytes q2 f) at-panes.given.1 at-section-at2.ensures in
     let q3 = p2 + 8 * n2 in
-    let no3 = (subst (λ (f : Found). SectionAt bytes q3 f) c.enum_told-in_default-section_at-2-1.given.1 c.section_at-3.ensures).is in
+    let no3 = (subst (λ (f : Found). SectionAt bytes q3 f) c.in_default-section_at-2.is c.section_at-3.ensures).is in
     bad-shares bytes p1 n1 k1.is p2 n2 k2.is no3
 
 pub overflow_mul-share_count : goal.overflow_mul-share_count
@@ -87,7 +87,7 @@ overflow_mul-share_count c =
     let p2 = at-panes.given.0.0 in
     let n2 = at-panes.given.0.1.0 in
     let q3 = p2 + 8 * n2 in
-    let k3 = subst (λ (f : Found). SectionAt bytes q3 f) c.shares-1.given.1 at-section-at3.ensures in
+    let k3 = subst (λ (f : Found). SectionAt bytes q3 f) c.in-At-section_at-2.is at-section-at3.ensures in
     omega (arith, k3.here.few)
 
 pub overflow_add-shares : goal.overflow_add-shares
@@ -98,7 +98,7 @@ overflow_add-shares c =
     let p2 = at-panes.given.0.0 in
     let n2 = at-panes.given.0.1.0 in
     let q3 = p2 + 8 * n2 in
-    let k3 = subst (λ (f : Found). SectionAt bytes q3 f) c.shares-1.given.1 at-section-at3.ensures in
+    let k3 = subst (λ (f : Found). SectionAt bytes q3 f) c.in-At-section_at-2.is at-section-at3.ensures in
     omega (arith, k3.here.inside)
 
 pub returns-in_default-section_at-3 : goal.returns-in_default-section_at-3
@@ -122,7 +122,7 @@ returns-in_default-section_at-3 c =
     let q3 = p2 + 8 * n2 in
     let k3 = subst (λ (f : Found). SectionAt bytes q3 f) at-shares.given.1 at-section-at3.ensures in
     let q4 = p3 + 8 * n3 in
-    let no4 = (subst (λ (f : Found). SectionAt bytes q4 f) c.enum_told-in_default-section_at-3-1.given.1 c.section_at-4.ensures).is in
+    let no4 = (subst (λ (f : Found). SectionAt bytes q4 f) c.in_default-section_at-3.is c.section_at-4.ensures).is in
     bad-minima bytes p1 n1 k1.is p2 n2 k2.is p3 n3 k3.is no4
 
 pub overflow_mul-end : goal.overflow_mul-end
@@ -133,7 +133,7 @@ overflow_mul-end c =
     let p3 = at-shares.given.0.0 in
     let n3 = at-shares.given.0.1.0 in
     let q4 = p3 + 8 * n3 in
-    let k4 = subst (λ (f : Found). SectionAt bytes q4 f) c.minima-1.given.1 at-section-at4.ensures in
+    let k4 = subst (λ (f : Found). SectionAt bytes q4 f) c.in-At-section_at-3.is at-section-at4.ensures in
     omega (arith, k4.here.few)
 
 pub overflow_add-end : goal.overflow_add-end
@@ -144,7 +144,7 @@ overflow_add-end c =
     let p3 = at-shares.given.0.0 in
     let n3 = at-shares.given.0.1.0 in
     let q4 = p3 + 8 * n3 in
-    let k4 = subst (λ (f : Found). SectionAt bytes q4 f) c.minima-1.given.1 at-section-at4.ensures in
+    let k4 = subst (λ (f : Found). SectionAt bytes q4 f) c.in-At-section_at-3.is at-section-at4.ensures in
     omega (arith, k4.here.inside)
 
 pub returns-then-end-b : goal.returns-then-end-b

@@ -15,7 +15,7 @@ use Rattle.util.proofs.minima.kept.Goals as goal
 
 pub loop-n-init : goal.loop-n-init
 loop-n-init c =
-    let m = c.args.t1 in
+    let m = c.args.minima in
     let s : length m.at ≡ 16 = search rules in
     let h : m.len ≤ length m.at = omega arith in
     (omega arith, cutting-start (reals m) m.len (sym (used-length m.len m.at h)))
@@ -23,7 +23,7 @@ loop-n-init c =
 pub returns-then-last : goal.returns-then-last
 unfolding of_bits ne
 returns-then-last c =
-    let m = c.args.t1 in
+    let m = c.args.minima in
     let l = c.loop-n in
     let s : length m.at ≡ 16 = search rules in
     let h : l.n - 1 < m.len = omega (arith, c.loop-n-test.true) in
@@ -34,7 +34,7 @@ returns-then-last c =
 pub loop-n-preserved : goal.loop-n-preserved
 unfolding of_bits ne
 loop-n-preserved c =
-    let m = c.args.t1 in
+    let m = c.args.minima in
     let l = c.loop-n in
     let s : length m.at ≡ 16 = search rules in
     let h : l.n - 1 < m.len = omega (arith, c.loop-n-test.true) in
@@ -45,4 +45,4 @@ loop-n-preserved c =
 pub returns : goal.returns
 returns c =
     let l = c.loop-n in
-    (l.invariant.0, cutting-none (reals c.args.t1) l.n c.loop-n-test.false l.invariant.1)
+    (l.invariant.0, cutting-none (reals c.args.minima) l.n c.loop-n-test.false l.invariant.1)

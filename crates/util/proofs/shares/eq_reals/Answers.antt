@@ -15,8 +15,8 @@ use Rattle.util.proofs.shares.eq_reals.Goals as goal
 
 pub returns-then-n-b : goal.returns-then-n-b
 returns-then-n-b c =
-    let a = c.args.t1 in
-    let b = c.args.t2 in
+    let a = c.args.a in
+    let b = c.args.b in
     let s : length a.at ≡ 16 = search rules in
     let t : length b.at ≡ 16 = search rules in
     let u = used-length a.len a.at (omega arith) in
@@ -25,8 +25,8 @@ returns-then-n-b c =
 
 pub loop-i-init : goal.loop-i-init
 loop-i-init c =
-    let a = c.args.t1 in
-    let b = c.args.t2 in
+    let a = c.args.a in
+    let b = c.args.b in
     let s : length a.at ≡ 16 = search rules in
     let t : length b.at ≡ 16 = search rules in
     let u = used-length a.len a.at (omega arith) in
@@ -43,8 +43,8 @@ same a b i n s t u v h =
 pub returns-then-x-y : goal.returns-then-x-y
 unfolding ne
 returns-then-x-y c =
-    let a = c.args.t1 in
-    let b = c.args.t2 in
+    let a = c.args.a in
+    let b = c.args.b in
     let i = c.loop-i.i in
     let s : length a.at ≡ 16 = search rules in
     let t : length b.at ≡ 16 = search rules in
@@ -55,8 +55,8 @@ returns-then-x-y c =
 pub loop-i-preserved : goal.loop-i-preserved
 unfolding ne
 loop-i-preserved c =
-    let a = c.args.t1 in
-    let b = c.args.t2 in
+    let a = c.args.a in
+    let b = c.args.b in
     let i = c.loop-i.i in
     let s : length a.at ≡ 16 = search rules in
     let t : length b.at ≡ 16 = search rules in
@@ -70,7 +70,7 @@ loop-i-preserved c =
 
 pub returns : goal.returns
 returns c =
-    let a = c.args.t1 in
-    let b = c.args.t2 in
+    let a = c.args.a in
+    let b = c.args.b in
     let h = c.loop-i-test.false in
     agreed-all eq (reals a) (reals b) c.loop-i.i (omega (arith, h, c.loop-i.invariant.1)) (omega (arith, h, c.loop-i.invariant.2)) c.loop-i.invariant.3

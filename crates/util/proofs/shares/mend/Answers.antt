@@ -19,7 +19,7 @@ use Rattle.util.proofs.shares.mend.Goals as goal
 pub loop-j-init : goal.loop-j-init
 unfolding pad_to of_bits
 loop-j-init c =
-    let l = c.args.t1 in
+    let l = c.args.shares in
     let s : length l.at ≡ 16 = search rules in
     let h : l.len ≤ length l.at = omega arith in
     let u = used-length l.len l.at h in
@@ -27,7 +27,7 @@ loop-j-init c =
 
 pub loop-j-preserved : goal.loop-j-preserved
 loop-j-preserved c =
-    let l = c.args.t1 in
+    let l = c.args.shares in
     let k = c.loop-j in
     let h = c.loop-j-test.true in
     let s : length l.at ≡ 16 = search rules in
@@ -42,7 +42,7 @@ loop-j-preserved c =
 
 pub returns : goal.returns
 returns c =
-    let l = c.args.t1 in
+    let l = c.args.shares in
     let k = c.loop-j in
     let u : length (map fix_share (reals l)) ≡ length (reals l) = length-map (reals l) fix_share in
     (building-done zero-f (map fix_share (reals l)) k.at l.len k.j k.invariant.0 c.loop-j-test.false, flagged-all share_ok (reals l) k.j k.valid (omega (arith, u, k.invariant.0.size)) k.invariant.1)
