@@ -88,7 +88,7 @@ def turned_body(body, place, fn):
     # Names of steps that the kit's scripts had respelled.
     loose = {}
     for old, new in steps.items():
-        loose.setdefault(plain(old), new)
+        loose.setdefault(plain(old).lower(), new)
     # What an arm of a match binds and tells, by the older record that held it.
     by = dict(zip((p[0] for p in fn["places"]), fn["arms"]))
     arms = {}
@@ -120,7 +120,7 @@ def turned_body(body, place, fn):
                 return ".".join(["c"] + arm + parts[n:])
         if parts:
             name = parts[0]
-            parts[0] = steps.get(name) or loose.get(plain(name)) or name
+            parts[0] = steps.get(name) or loose.get(plain(name).lower()) or name
             if len(parts) > 1 and parts[0].startswith("loop-"):
                 parts[1] = variables.get(plain(parts[1]), parts[1])
             if len(parts) > 1 and parts[0] == "args":
@@ -131,9 +131,28 @@ def turned_body(body, place, fn):
     for m in list(re.finditer(r"let (" + NAME + r") = (" + "|".join(map(re.escape, whole)) + r")((?:\.before)*)\.(args|loop\d*) in", body)):
         body = re.sub(r"(?<![\w.'-])" + re.escape(m.group(1)) + r"\.([^\s(){}\[\].,;:]+)", lambda x: m.group(1) + "." + (fn["temporaries"].get(x.group(1)) or fn["parameters"].get(plain(x.group(1))) or x.group(1) if m.group(4) == "args" else variables.get(plain(x.group(1)), x.group(1))), body)
     body = re.sub(r"(?<![\w.'-])(" + "|".join(sorted(map(re.escape, whole), key=len, reverse=True)) + r")((?:\.[^\s(){}\[\].,;:]+)*)(?![\w'-])", path, body)
+    # What a call leaves in the places lent has its parameter's name now, and had its number.
+    callees = {p[2][1]: fn["params"].get(p[3], []) for p in fn["places"] if len(p) > 3 and p[3]}
+    step_of = {m.group(1): m.group(2) for m in re.finditer(r"let (" + NAME + r") = c\.([^\s(){}\[\].,;:]+) in", body)}
+
+    def left(m):
+        step = m.group(2) if m.group(1) == "c" else step_of.get(m.group(1))
+        names = callees.get(step, [])
+        at = len(m.group(3)) // 2
+        if at >= len(names):
+            return m.group(0)
+        return (f"c.{step}" if m.group(1) == "c" else m.group(1)) + ".new." + names[at]
+
+    body = re.sub(r"(?<![\w.'-])(c)\.([^\s(){}\[\].,;:]+)\.new((?:\.1)*)\.0", left, body)
+    body = re.sub(r"(?<![\w.'-])(" + "|".join(map(re.escape, step_of)) + r")()\.new((?:\.1)*)\.0", left, body) if step_of else body
     # A test of `!x` tells of x itself.
-    body = re.sub(r"\(not-(?:true|false) [^\s()]+ (c\.if-not[^\s()]*)\)", r"\1", body)
-    return re.sub(r"not-(?:true|false) [^\s()]+ (c\.if-not[^\s()]*)", r"\1", body)
+    called = {p[3].rsplit("::", 1)[-1] for p in fn["places"] if len(p) > 3 and p[3]}
+    for name in sorted(called, key=len, reverse=True):
+        step = r"c\.(if-not-" + re.escape(name) + r"(?:-[^\s()]*?)?\.(?:true|false))(?![\w'-])"
+        body = re.sub(r"\(not-(?:true|false) [^\s()]+ " + step + r"\)", r"c,\1", body)
+        body = re.sub(r"not-(?:true|false) [^\s()]+ " + step, r"c,\1", body)
+        body = re.sub(r"(?<![\w.'-])" + step, r"(ap not c,\1)", body)
+    return body.replace("c,if-not", "c.if-not").replace("(ap not c.if-not", "(ap not c.if-not")
 
 
 def invariant(decl, loops, fn):
@@ -189,6 +208,12 @@ def answer(decl, old_new, place, fn):
 
 def used(imports, text):
     """The imports with those names alone that the text has."""
+    if "(ap not c.if-not" in text:
+        have = "\n".join(imports)
+        if not re.search(r"Core\.Path\.\{[^}]*\bap\b", have):
+            imports = imports + ["use mathlib.Core.Path.{ap}"]
+        if not re.search(r"Core\.Bool\.\{[^}]*\bnot\b", have):
+            imports = imports + ["use mathlib.Core.Bool.{not}"]
     words = set(re.findall(r"[^\s(){}\[\],;.]+", text)) | set(re.findall(r"[^\s(){}\[\].,;:]+", text))
     out = []
     for line in imports:
@@ -238,7 +263,8 @@ def turn(path, fn, crate, module):
         text = f.read()
     given = parameters(crate, module)
     copies = [n for n, ty in given if not ty.startswith("&") and ty.strip() not in SCALARS and not re.search(r"\b(?:a|args)\." + n + r"(?![\w'-])", text)]
-    fn["temporaries"] = {f"t{i + 1}": n for i, n in enumerate(copies)}
+    cited = sorted(set(re.findall(r"\b(?:a|args)\.(t\d+)(?![\w'-])", text)), key=lambda x: int(x[1:]))
+    fn["temporaries"] = dict(zip(cited, copies)) if len(cited) == len(copies) else {f"t{i + 1}": n for i, n in enumerate(copies)}
     fn["parameters"] = {plain(n): n for n, _ in given}
     decls, tail = declarations(text)
     if not any("tie.close" in "".join(t for _, t in d[4]) for d in decls):

@@ -3,30 +3,32 @@ use borrow.Author.Rules.{rules}
 use lib.ListN.{take}
 use Rattle.solver.specs.Call.{reals_of}
 use Rattle.solver.proofs.Solves.{counts-few, ok-counts, into-refused, read-refused, read-accepted}
+use mathlib.Core.Path.{ap}
+use mathlib.Core.Bool.{not}
 use Rattle.solver.proofs.solve_into.Goals as goal
 
 pub returns-then-not-counts_ok : goal.returns-then-not-counts_ok
 returns-then-not-counts_ok c =
     let a = c.args in
     into-refused a.total (reals_of a.shares.now a.share_count) (reals_of a.minima.now a.minimum_count)
-    (ok-counts a.share_count a.minimum_count a.total (take a.share_count a.shares.now) (take a.minimum_count a.minima.now) c.counts_ok.result c.counts_ok.ensures c.if-not-counts_ok.true) c.refused.result c.refused.ensures a.lengths.now
+    (ok-counts a.share_count a.minimum_count a.total (take a.share_count a.shares.now) (take a.minimum_count a.minima.now) c.counts_ok.result c.counts_ok.ensures (ap not c.if-not-counts_ok.true)) c.refused.result c.refused.ensures a.lengths.now
 
 pub read_all-g-requires : goal.read_all-g-requires
 read_all-g-requires c =
     let a = c.args in
-    ((counts-few a.share_count a.minimum_count a.total c.counts_ok.result c.counts_ok.ensures c.if-not-counts_ok.false).0, c.sized.ensures, c.sized-2.ensures, search rules)
+    ((counts-few a.share_count a.minimum_count a.total c.counts_ok.result c.counts_ok.ensures (ap not c.if-not-counts_ok.false)).0, c.sized.ensures, c.sized-2.ensures, search rules)
 
 pub returns-then-not-g : goal.returns-then-not-g
 returns-then-not-g c =
     let a = c.args in
-    read-refused a.total a.shares.now a.minima.now _ a.share_count a.minimum_count c.counts_ok.result c.counts_ok.ensures c.if-not-counts_ok.false c.read_all-g.result c.read_all-g.ensures c.if-not-g.true c.refused-then-not-g.result c.refused-then-not-g.ensures a.lengths.now
+    read-refused a.total a.shares.now a.minima.now _ a.share_count a.minimum_count c.counts_ok.result c.counts_ok.ensures (ap not c.if-not-counts_ok.false) c.read_all-g.result c.read_all-g.ensures c.if-not-g.true c.refused-then-not-g.result c.refused-then-not-g.ensures a.lengths.now
 
 pub solve_lent-passes-requires : goal.solve_lent-passes-requires
 solve_lent-passes-requires c =
     let a = c.args in
-    ((counts-few a.share_count a.minimum_count a.total c.counts_ok.result c.counts_ok.ensures c.if-not-counts_ok.false).0, c.sized.ensures, c.read_all-g.ensures.long, c.read_all-g.ensures.shares, c.read_all-g.ensures.minima)
+    ((counts-few a.share_count a.minimum_count a.total c.counts_ok.result c.counts_ok.ensures (ap not c.if-not-counts_ok.false)).0, c.sized.ensures, c.read_all-g.ensures.long, c.read_all-g.ensures.shares, c.read_all-g.ensures.minima)
 
 pub returns : goal.returns
 returns c =
     let a = c.args in
-    read-accepted a.total a.shares.now a.minima.now _ a.share_count a.minimum_count c.counts_ok.result c.counts_ok.ensures c.if-not-counts_ok.false c.read_all-g.result c.read_all-g.ensures c.if-not-g.false c.plus_zero.result c.plus_zero.ensures a.lengths.now _ c.solve_lent-passes.result c.solve_lent-passes.ensures
+    read-accepted a.total a.shares.now a.minima.now _ a.share_count a.minimum_count c.counts_ok.result c.counts_ok.ensures (ap not c.if-not-counts_ok.false) c.read_all-g.result c.read_all-g.ensures c.if-not-g.false c.plus_zero.result c.plus_zero.ensures a.lengths.now _ c.solve_lent-passes.result c.solve_lent-passes.ensures

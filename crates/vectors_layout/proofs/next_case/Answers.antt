@@ -4,4 +4,4 @@ use mathlib.Core.Path.{sym}
 use Rattle.vectors_layout.proofs.next_case.Goals as goal
 
 pub slice_bounds-b-end-2 : goal.slice_bounds-b-end-2
-slice_bounds-b-end-2 c = sym (length-take-le c.body_in-n.result c.body_in-n.new.0 c.body_in-n.ensures)
+slice_bounds-b-end-2 c = sym (length-take-le c.body_in-n.result c.body_in-n.new.buf c.body_in-n.ensures)

@@ -105,4 +105,4 @@ returns-in-Split c =
     let m = c.args.m in
     let e = at-row2.given.1 in
     let to = ap (λ (r : TableRow). row_node k i (row_is r) (left_at table p s m)) (sym (e)) in
-    subst (λ (n : Node). SlotIs c.Split-from.result n) ((λ j. split at-row2.given.0.0 (at-children-of.ensures.list j) (c.reals_of-ss.ensures.list j) (c.reals_of-ms.ensures.list j)) ∙ to) c.Split-from.ensures
+    subst (λ (n : Node). SlotIs c.split_from.result n) ((λ j. split at-row2.given.0.0 (at-children-of.ensures.list j) (c.reals_of-ss.ensures.list j) (c.reals_of-ms.ensures.list j)) ∙ to) c.split_from.ensures

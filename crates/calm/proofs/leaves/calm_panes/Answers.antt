@@ -1,5 +1,6 @@
 -- `calm::leaves::calm_panes` is `calm_panes`: its loop, by what is left. Assumes nothing.
 use native.Mathlib.Omega.{arith}
+use borrow.Author.Tests.{not-true, not-false}
 use lib.ListN.{take, get_or, length-take}
 use lib.Seq.{get_or-take, length-take-le}
 use Rattle.calm.proofs.Laws.{looking-none, looking-more, looking-stop, looking-done}
@@ -20,7 +21,7 @@ returns-then-not-c c =
     let long = length-take-le a.count a.row.now (omega (arith, c.requires.2, c.requires.0)) in
     let k = c.calm_pane-c in
     looking-stop ps a.seen.now a.n c.loop-j.seen c.loop-j.m c.loop-j.j c.loop-j.invariant (omega (arith, long, h)) (get_or a.row.now c.loop-j.j 0) (get_or-take a.count a.row.now c.loop-j.j 0 h)
-    k.new.0 k.result k.ensures c.if-not-c.true c.stopped.result c.stopped.ensures.0 c.stopped.ensures.1
+    k.new.seen k.result k.ensures (not-true k.result.ok c.if-not-c.true) c.stopped.result c.stopped.ensures.0 c.stopped.ensures.1
 
 pub loop-j-smaller : goal.loop-j-smaller
 loop-j-smaller c = omega (arith, c.loop-j-test.true)
@@ -33,7 +34,7 @@ loop-j-preserved c =
     let long = length-take-le a.count a.row.now (omega (arith, c.requires.2, c.requires.0)) in
     let k = c.calm_pane-c in
     looking-more ps a.seen.now a.n c.loop-j.seen c.loop-j.m c.loop-j.j c.loop-j.invariant (omega (arith, long, h)) (get_or a.row.now c.loop-j.j 0) (get_or-take a.count a.row.now c.loop-j.j 0 h)
-    k.new.0 k.result k.ensures c.if-not-c.false
+    k.new.seen k.result k.ensures (not-false k.result.ok c.if-not-c.false)
 
 pub returns : goal.returns
 returns c =

@@ -5,6 +5,7 @@ use Prim.Native.Nat.{ℕ}
 use native.Mathlib.Nat.{pos_of_ne-zero}
 use native.Mathlib.Omega.{arith}
 use borrow.Author.Rules.{rules}
+use borrow.Author.Tests.{not-true, not-false}
 use lib.ListN.{take, get_or}
 use Rattle.rules.specs.Tree.{Node, empty, pane}
 use Rattle.columns.specs.Columns.{axis_from, node_by, nodes_from}
@@ -84,7 +85,7 @@ calm_node-returns-then-kind-eq1 t c =
     let deep = pos_of_ne-zero c.if-depth-eq0.false in
     let is = nodes-at x.heads.now x.ids.now x.shares.now x.minima.now G.heads G.ids G.shares G.minima x.id in
     let by : ℕ → Node = λ k. node_by k h (get_or x.ids.now x.id []) (get_or x.shares.now x.id []) (get_or x.minima.now x.id []) in
-    pane-read x.claimed.now x.id G.flags inside open-yet x.seen.now x.n (get_or h 2 0) c.calm_pane.new.0 c.calm_pane.result c.calm_pane.ensures _
+    pane-read x.claimed.now x.id G.flags inside open-yet x.seen.now x.n (get_or h 2 0) c.calm_pane.new.seen c.calm_pane.result c.calm_pane.ensures _
     (calm-at ns x.id x.claimed.now (take x.n x.seen.now) inside open-yet (pane (get_or h 2 0)) (is ∙ ap by c.if-kind-eq1.true) x.depth deep)
 
 pub calm_node-measured-requires : goal.calm_node-measured-requires
@@ -116,7 +117,7 @@ calm_node-returns-then-kind-eq2 t c =
     let deep = pos_of_ne-zero c.if-depth-eq0.false in
     let is = nodes-at x.heads.now x.ids.now x.shares.now x.minima.now G.heads G.ids G.shares G.minima x.id in
     let by : ℕ → Node = λ k. node_by k h (get_or x.ids.now x.id []) (get_or x.shares.now x.id []) (get_or x.minima.now x.id []) in
-    group-read x.claimed.now x.id G.flags inside open-yet x.seen.now x.n h (get_or x.ids.now x.id []) c.calm_group.new.0 c.calm_group.result c.calm_group.ensures _
+    group-read x.claimed.now x.id G.flags inside open-yet x.seen.now x.n h (get_or x.ids.now x.id []) c.calm_group.new.seen c.calm_group.result c.calm_group.ensures _
     (calm-at ns x.id x.claimed.now (take x.n x.seen.now) inside open-yet _ (is ∙ ap by c.if-kind-eq2.true) x.depth deep)
 
 pub calm_node-calm_split-requires : goal.calm_node-calm_split-requires
@@ -257,7 +258,7 @@ calm_split-returns-then-not-w t c =
     let inv = c.loop-j.invariant few R in
     let lt = c.loop-j-test.true in
     let w = c.calm_node-w in
-    kid-stops again ns a h xs ss ms few R x.claimed.now x.seen.now x.n ok told yes c.loop-j.claimed c.loop-j.seen c.loop-j.m c.loop-j.j inv lt w.new.1.1.1.1.0 w.new.1.1.1.1.1.0 w.result w.ensures c.if-not-w.true c.stopped-then-not-w.result c.stopped-then-not-w.ensures.0 c.stopped-then-not-w.ensures.1
+    kid-stops again ns a h xs ss ms few R x.claimed.now x.seen.now x.n ok told yes c.loop-j.claimed c.loop-j.seen c.loop-j.m c.loop-j.j inv lt w.new.claimed w.new.seen w.result w.ensures (not-true w.result.ok c.if-not-w.true) c.stopped-then-not-w.result c.stopped-then-not-w.ensures.0 c.stopped-then-not-w.ensures.1
 
 pub calm_split-minimum_at-minimum-requires : goal.calm_split-minimum_at-minimum-requires
 calm_split-minimum_at-minimum-requires t c =
@@ -289,7 +290,7 @@ calm_split-returns-then-melts_in t c =
     let inv = c.loop-j.invariant few R in
     let lt = c.loop-j-test.true in
     let w = c.calm_node-w in
-    kid-melts again ns a h xs ss ms few R x.claimed.now x.seen.now x.n ok told yes c.loop-j.claimed c.loop-j.seen c.loop-j.m c.loop-j.j inv lt w.new.1.1.1.1.0 w.new.1.1.1.1.1.0 w.result w.ensures c.if-not-w.false c.minimum_at-minimum.result c.minimum_at-minimum.ensures c.melts_in.result (c.melts_in.ensures x.ids.now x.shares.now x.minima.now G.ids G.shares G.minima) c.if-melts_in.true
+    kid-melts again ns a h xs ss ms few R x.claimed.now x.seen.now x.n ok told yes c.loop-j.claimed c.loop-j.seen c.loop-j.m c.loop-j.j inv lt w.new.claimed w.new.seen w.result w.ensures (not-false w.result.ok c.if-not-w.false) c.minimum_at-minimum.result c.minimum_at-minimum.ensures c.melts_in.result (c.melts_in.ensures x.ids.now x.shares.now x.minima.now G.ids G.shares G.minima) c.if-melts_in.true
     c.stopped-then-melts_in.result c.stopped-then-melts_in.ensures.0 c.stopped-then-melts_in.ensures.1
 
 pub calm_split-overflow_add-j : goal.calm_split-overflow_add-j
@@ -321,7 +322,7 @@ calm_split-loop-j-preserved t c =
     let w = c.calm_node-w in
     λ few R.
     let inv = c.loop-j.invariant few R in
-    kid-stays again ns a h xs ss ms few R x.claimed.now x.seen.now x.n ok told yes c.loop-j.claimed c.loop-j.seen c.loop-j.m c.loop-j.j inv lt w.new.1.1.1.1.0 w.new.1.1.1.1.1.0 w.result w.ensures c.if-not-w.false c.minimum_at-minimum.result c.minimum_at-minimum.ensures c.melts_in.result (c.melts_in.ensures x.ids.now x.shares.now x.minima.now G.ids G.shares G.minima) c.if-melts_in.false
+    kid-stays again ns a h xs ss ms few R x.claimed.now x.seen.now x.n ok told yes c.loop-j.claimed c.loop-j.seen c.loop-j.m c.loop-j.j inv lt w.new.claimed w.new.seen w.result w.ensures (not-false w.result.ok c.if-not-w.false) c.minimum_at-minimum.result c.minimum_at-minimum.ensures c.melts_in.result (c.melts_in.ensures x.ids.now x.shares.now x.minima.now G.ids G.shares G.minima) c.if-melts_in.false
 
 pub calm_split-returns : goal.calm_split-returns
 calm_split-returns t c =

@@ -41,7 +41,7 @@ returns-then-not-share_ok c =
     let xs = reals_at bytes s count in
     let f = c.args.from in
     let n = c.args.n in
-    part-found (λ (x : Float). not (share_ok x)) xs f n (let l = length-entries bytes s count real in omega (arith, c.requires.1)) zero-f at-loop.i at-loop-test.true at-real-at.result at-real-at.ensures (ap not (sym c.share_ok.ensures) ∙ c.if-not-share_ok.true) at-loop.invariant.1
+    part-found (λ (x : Float). not (share_ok x)) xs f n (let l = length-entries bytes s count real in omega (arith, c.requires.1)) zero-f at-loop.i at-loop-test.true at-real-at.result at-real-at.ensures (ap not (sym c.share_ok.ensures) ∙ (ap not c.if-not-share_ok.true)) at-loop.invariant.1
 
 pub overflow_add-i : goal.overflow_add-i
 overflow_add-i c =
@@ -64,7 +64,7 @@ loop-i-preserved c =
     let xs = reals_at bytes s count in
     let f = c.args.from in
     let n = c.args.n in
-    (omega (arith, at-loop-test.true), part-more (λ (x : Float). not (share_ok x)) xs f n (let l = length-entries bytes s count real in omega (arith, c.requires.1)) zero-f at-loop.i at-loop-test.true at-real-at.result at-real-at.ensures (ap not (sym c.share_ok.ensures) ∙ c.if-not-share_ok.false) at-loop.invariant.1)
+    (omega (arith, at-loop-test.true), part-more (λ (x : Float). not (share_ok x)) xs f n (let l = length-entries bytes s count real in omega (arith, c.requires.1)) zero-f at-loop.i at-loop-test.true at-real-at.result at-real-at.ensures (ap not (sym c.share_ok.ensures) ∙ (ap not c.if-not-share_ok.false)) at-loop.invariant.1)
 
 pub returns : goal.returns
 returns c =

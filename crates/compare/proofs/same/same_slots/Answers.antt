@@ -5,6 +5,8 @@ use Rattle.rules.specs.declared.model.Slot.{Slot}
 use Rattle.compare.specs.Same.{same_slot}
 use Rattle.compare.proofs.Taken.{whole-more, whole-not, whole-all}
 use borrow.Author.Rules.{rules}
+use mathlib.Core.Path.{ap}
+use mathlib.Core.Bool.{not}
 use Rattle.compare.proofs.same.same_slots.Goals as goal
 
 -- what a place past an array of slots reads as
@@ -23,13 +25,13 @@ pub returns-then-not-same_slot : goal.returns-then-not-same_slot
 returns-then-not-same_slot c =
     let a = c.args in
     let v = c.loop-j.invariant in
-    whole-not same_slot 64 a.xs a.ys v.1 v.2 c.loop-j.j none c.same_slot.result (search rules) c.same_slot.ensures c.if-not-same_slot.true v.3
+    whole-not same_slot 64 a.xs a.ys v.1 v.2 c.loop-j.j none c.same_slot.result (search rules) c.same_slot.ensures (ap not c.if-not-same_slot.true) v.3
 
 pub loop-j-preserved : goal.loop-j-preserved
 loop-j-preserved c =
     let a = c.args in
     let v = c.loop-j.invariant in
-    (search rules, v.1, v.2, whole-more same_slot 64 a.xs a.ys v.1 v.2 c.loop-j.j none c.same_slot.result (search rules) c.same_slot.ensures c.if-not-same_slot.false v.3)
+    (search rules, v.1, v.2, whole-more same_slot 64 a.xs a.ys v.1 v.2 c.loop-j.j none c.same_slot.result (search rules) c.same_slot.ensures (ap not c.if-not-same_slot.false) v.3)
 
 pub returns : goal.returns
 returns c =

@@ -25,4 +25,4 @@ returns-in-Nothing c =
 pub returns-in-In : goal.returns-in-In
 returns-in-In c =
     let x = c.args in
-    record { even = c.Put-under.ensures.even; steps = λ a W. c.Put-under.ensures.steps a (put-unders x.root x.room (nodes_from x.heads.now x.ids.now x.shares.now x.minima.now) (view_slot x.new) x.b a (holder_of x.parent) W.0 _ _ (ap holder_of c.in-In.is) W.1 c.if-target-root.false) }
+    record { even = c.put_under.ensures.even; steps = λ a W. c.put_under.ensures.steps a (put-unders x.root x.room (nodes_from x.heads.now x.ids.now x.shares.now x.minima.now) (view_slot x.new) x.b a (holder_of x.parent) W.0 _ _ (ap holder_of c.in-In.is) W.1 c.if-target-root.false) }

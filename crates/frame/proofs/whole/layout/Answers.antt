@@ -32,6 +32,6 @@ paint_order-paint_order-requires c =
 
 pub returns : goal.returns
 returns c =
-    laid c.args.t c.args.input _ _ c.layout_into-l.new.1.1.0 c.layout_into-l.new.1.1.1.0 c.layout_into-l.result c.sized.ensures c.layout_into-l.ensures
+    laid c.args.t c.args.input _ _ c.layout_into-l.new.items c.layout_into-l.new.rects c.layout_into-l.result c.sized.ensures c.layout_into-l.ensures
     c.panes-panes.result c.tab_bars-tab_bars.result c.tabs-tabs.result c.split_children-split_children.result c.split_handles-split_handles.result c.focus_order-focus_order.result c.paint_order-paint_order.result
     c.panes-panes.ensures c.tab_bars-tab_bars.ensures c.tabs-tabs.ensures c.split_children-split_children.ensures c.split_handles-split_handles.ensures c.focus_order-focus_order.ensures c.paint_order-paint_order.ensures

@@ -15,7 +15,7 @@ returns-then-id-ge64 c =
       r.ensures.lent,
       λ cs seen e ps pm Z room.
           placed_one (cols a.heads.now a.ids.now a.shares.now a.minima.now cs seen a.acts.now a.c) Z a.mode e (kids_in a.cs.now a.ss.now a.ms.now a.t.len a.t.moved) a.share a.minimum ps pm a.id
-          (kids_in r.new.0 r.new.1.0 r.new.1.1.0 r.result.tally.len r.result.tally.moved) r.result.counts r.result.wide r.ensures
+          (kids_in r.new.cs r.new.ss r.new.ms r.result.tally.len r.result.tally.moved) r.result.counts r.result.wide r.ensures
           (melts-past a.mode a.minimum a.heads.now a.ids.now a.shares.now a.minima.now a.id (omega (arith, c.requires.0, c.if-id-ge64.true))),
     )
 
@@ -26,7 +26,7 @@ returns-then-not-is_meltable c =
       r.ensures.lent,
       λ cs seen e ps pm Z room.
           placed_one (cols a.heads.now a.ids.now a.shares.now a.minima.now cs seen a.acts.now a.c) Z a.mode e (kids_in a.cs.now a.ss.now a.ms.now a.t.len a.t.moved) a.share a.minimum ps pm a.id
-          (kids_in r.new.0 r.new.1.0 r.new.1.1.0 r.result.tally.len r.result.tally.moved) r.result.counts r.result.wide r.ensures
+          (kids_in r.new.cs r.new.ss r.new.ms r.result.tally.len r.result.tally.moved) r.result.counts r.result.wide r.ensures
           (sym (c.is_meltable.ensures _ _ _) ∙ c.if-not-is_meltable.true),
     )
 
@@ -41,7 +41,7 @@ returns-then-p c =
       r.ensures.lent,
       λ cs seen e ps pm Z room.
           placed-over (cols a.heads.now a.ids.now a.shares.now a.minima.now cs seen a.acts.now a.c) Z a.mode e (kids_in a.cs.now a.ss.now a.ms.now a.t.len a.t.moved) a.share a.minimum ps pm a.id
-          c.load-given.result c.load-given.ensures (kids_in r.new.0 r.new.1.0 r.new.1.1.0 r.result.tally.len r.result.tally.moved) r.result.counts r.result.wide r.ensures
+          c.load-given.result c.load-given.ensures (kids_in r.new.cs r.new.ss r.new.ms r.result.tally.len r.result.tally.moved) r.result.counts r.result.wide r.ensures
           (sym (c.is_meltable.ensures _ _ _) ∙ c.if-not-is_meltable.false) c.if-p.true,
     )
 
@@ -52,7 +52,7 @@ returns c =
       r.ensures.lent,
       λ cs seen e ps pm Z room.
           placed-melted (cols a.heads.now a.ids.now a.shares.now a.minima.now cs seen a.acts.now a.c) Z a.mode e (kids_in a.cs.now a.ss.now a.ms.now a.t.len a.t.moved) a.share a.minimum ps pm a.id
-          c.load-given.result c.load-given.ensures (kids_in r.new.0 r.new.1.0 r.new.1.1.0 r.result.tally.len r.result.tally.moved) r.result.counts r.result.wide r.ensures
+          c.load-given.result c.load-given.ensures (kids_in r.new.cs r.new.ss r.new.ms r.result.tally.len r.result.tally.moved) r.result.counts r.result.wide r.ensures
           (sym (c.is_meltable.ensures _ _ _) ∙ c.if-not-is_meltable.false) c.if-p.false room _ c.note-n.result
           (c.note-n.ensures (CollapsedSplit (tile a.id)) refl refl refl),
     )

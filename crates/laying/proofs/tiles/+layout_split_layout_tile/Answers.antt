@@ -74,9 +74,9 @@ layout_split-loop-j-preserved t c =
     let axis = c.axis_of-axis.result in (
       omega arith,
       kids-more again (tile a.id) axis a.rect handle row count few ls c.split_lengths-lengths.ensures.1 l.j l.at c.get-length.result c.along_rect-room.result c.along_rect-bar.result
-          (stream l.items l.rects l.m) (stream c.push_child-m.new.0 c.push_child-m.new.1.0 c.push_child-m.result)
-          (stream c.layout_tile-m.new.1.1.1.1.0 c.layout_tile-m.new.1.1.1.1.1.0 c.layout_tile-m.result)
-          (stream c.handle_after-m.new.0 c.handle_after-m.new.1.0 c.handle_after-m.result)
+          (stream l.items l.rects l.m) (stream c.push_child-m.new.items c.push_child-m.new.rects c.push_child-m.result)
+          (stream c.layout_tile-m.new.items c.layout_tile-m.new.rects c.layout_tile-m.result)
+          (stream c.handle_after-m.new.items c.handle_after-m.new.rects c.handle_after-m.result)
           (push_all (layout_kids again (tile a.id) axis a.rect handle 0 (map tile (take count row)) ls c.along_start-at.result) (stream a.items.now a.rects.now a.n))
           c.loop-j-test.true c.get-length.ensures c.along_rect-room.ensures c.along_rect-bar.ensures c.push_child-m.ensures c.layout_tile-m.ensures c.handle_after-m.ensures l.invariant.1,
     )
@@ -121,7 +121,7 @@ layout_tile-layout_pane-requires t c = tt
 pub layout_tile-returns-then-kind-eq1 : goal.layout_tile-returns-then-kind-eq1
 layout_tile-returns-then-kind-eq1 t c =
     let a = c.args in
-    tile-pane a.heads.now a.ids.now a.shares.now a.minima.now c.requires.1 a.input a.id a.rect (stream a.items.now a.rects.now a.n) a.depth c.if-depth-eq0.false (stream c.layout_pane.new.0 c.layout_pane.new.1.0 c.layout_pane.result) c.if-kind-eq1.true c.layout_pane.ensures
+    tile-pane a.heads.now a.ids.now a.shares.now a.minima.now c.requires.1 a.input a.id a.rect (stream a.items.now a.rects.now a.n) a.depth c.if-depth-eq0.false (stream c.layout_pane.new.items c.layout_pane.new.rects c.layout_pane.result) c.if-kind-eq1.true c.layout_pane.ensures
 
 pub layout_tile-layout_tabs-requires : goal.layout_tile-layout_tabs-requires
 layout_tile-layout_tabs-requires t c = c.requires.1.slim c.args.id
@@ -129,7 +129,7 @@ layout_tile-layout_tabs-requires t c = c.requires.1.slim c.args.id
 pub layout_tile-returns-then-kind-eq2 : goal.layout_tile-returns-then-kind-eq2
 layout_tile-returns-then-kind-eq2 t c =
     let a = c.args in
-    tile-tabs a.heads.now a.ids.now a.shares.now a.minima.now c.requires.1 a.input a.id a.rect (stream a.items.now a.rects.now a.n) a.depth c.if-depth-eq0.false (stream c.layout_tabs.new.0 c.layout_tabs.new.1.0 c.layout_tabs.result) c.if-kind-eq2.true c.layout_tabs.ensures
+    tile-tabs a.heads.now a.ids.now a.shares.now a.minima.now c.requires.1 a.input a.id a.rect (stream a.items.now a.rects.now a.n) a.depth c.if-depth-eq0.false (stream c.layout_tabs.new.items c.layout_tabs.new.rects c.layout_tabs.result) c.if-kind-eq2.true c.layout_tabs.ensures
 
 pub layout_tile-overflow_sub-depth : goal.layout_tile-overflow_sub-depth
 layout_tile-overflow_sub-depth t c = pos_of_ne-zero c.if-depth-eq0.false
@@ -142,4 +142,4 @@ pub layout_tile-returns : goal.layout_tile-returns
 layout_tile-returns t c =
     let a = c.args in
     tile-split a.heads.now a.ids.now a.shares.now a.minima.now c.requires.1 a.input a.id a.rect (stream a.items.now a.rects.now a.n) a.depth c.if-depth-eq0.false
-    (stream c.layout_split.new.1.1.1.1.0 c.layout_split.new.1.1.1.1.1.0 c.layout_split.result) c.if-kind-eq0.false c.if-kind-eq1.false c.if-kind-eq2.false c.layout_split.ensures
+    (stream c.layout_split.new.items c.layout_split.new.rects c.layout_split.result) c.if-kind-eq0.false c.if-kind-eq1.false c.if-kind-eq2.false c.layout_split.ensures

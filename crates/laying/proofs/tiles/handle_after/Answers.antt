@@ -7,7 +7,7 @@ use Rattle.laying.proofs.tiles.handle_after.Goals as goal
 pub returns-then-more : goal.returns-then-more
 returns-then-more c =
     let a = c.args in
-    handle-yes a.more (tile a.id) a.index a.axis a.rect (stream a.items.now a.rects.now a.n) (stream c.push_handle.new.0 c.push_handle.new.1.0 c.push_handle.result) c.if-more.true c.push_handle.ensures
+    handle-yes a.more (tile a.id) a.index a.axis a.rect (stream a.items.now a.rects.now a.n) (stream c.push_handle.new.items c.push_handle.new.rects c.push_handle.result) c.if-more.true c.push_handle.ensures
 
 pub returns : goal.returns
 returns c =

@@ -27,7 +27,7 @@ pub normalize_node-returns-then-id-ge64 : goal.normalize_node-returns-then-id-ge
 normalize_node-returns-then-id-ge64 t c =
     let x = c.args in
     dropped x.heads.now x.ids.now x.shares.now x.minima.now x.claimed.now x.seen.now x.acts.now x.c x.id
-    c.requires.1.0 c.requires.1.1 c.gone.new.0 c.gone.result.kept c.gone.result.counts c.gone.ensures
+    c.requires.1.0 c.requires.1.1 c.gone.new.acts c.gone.result.kept c.gone.result.counts c.gone.ensures
     (λ w W f. gone-out (tile x.id) w c.if-id-ge64.true f)
 
 -- src/nodes.rt:92:8
@@ -47,7 +47,7 @@ pub normalize_node-returns-then-claimed-i : goal.normalize_node-returns-then-cla
 normalize_node-returns-then-claimed-i t c =
     let x = c.args in
     dropped x.heads.now x.ids.now x.shares.now x.minima.now x.claimed.now x.seen.now x.acts.now x.c x.id
-    c.requires.1.0 c.requires.1.1 c.gone-then-claimed-i.new.0 c.gone-then-claimed-i.result.kept c.gone-then-claimed-i.result.counts c.gone-then-claimed-i.ensures
+    c.requires.1.0 c.requires.1.1 c.gone-then-claimed-i.new.acts c.gone-then-claimed-i.result.kept c.gone-then-claimed-i.result.counts c.gone-then-claimed-i.ensures
     (λ w W f. gone-claimed (tile x.id) w c.if-id-ge64.false (ap (λ (fs : List Bool). get_or fs x.id false) W.claimed ∙ c.if-claimed-i.true) f)
 
 -- src/nodes.rt:98:9
@@ -65,7 +65,7 @@ normalize_node-returns-then-kind-eq0 t c =
     let h = get_or x.heads.now x.id [] in
     let here = cols x.heads.now x.ids.now x.shares.now x.minima.now x.claimed.now x.seen.now x.acts.now x.c in
     dropped x.heads.now x.ids.now x.shares.now x.minima.now x.claimed.now x.seen.now x.acts.now x.c x.id
-    c.requires.1.0 c.requires.1.1 c.gone-then-kind-eq0.new.0 c.gone-then-kind-eq0.result.kept c.gone-then-kind-eq0.result.counts c.gone-then-kind-eq0.ensures
+    c.requires.1.0 c.requires.1.1 c.gone-then-kind-eq0.new.acts c.gone-then-kind-eq0.result.kept c.gone-then-kind-eq0.result.counts c.gone-then-kind-eq0.ensures
     (λ w W f. gone-empty (tile x.id) w c.if-id-ge64.false (ap (λ (fs : List Bool). get_or fs x.id false) W.claimed ∙ c.if-claimed-i.false)
     (slot_is here c.requires.1.0 w W x.id ∙ ap (λ (i : ℕ). node_by i h (get_or x.ids.now x.id []) (get_or x.shares.now x.id []) (get_or x.minima.now x.id [])) c.if-kind-eq0.true) f)
 
@@ -169,7 +169,7 @@ normalize_split-returns-then-is_wide t c =
     let X = context p.0 p.1 p.2 p.3 (c.open_split-o.ensures x.seen.now p.0) c.measured.ensures in
     let G = c.loop-j.invariant.0 C₀ X in
     let r = c.normalize_node-w in
-    let E₁ = cols r.new.0 r.new.1.0 r.new.1.1.0 r.new.1.1.1.0 r.new.1.1.1.1.0 r.new.1.1.1.1.1.0 r.new.1.1.1.1.1.1.0 r.result.counts in
+    let E₁ = cols r.new.heads r.new.ids r.new.shares r.new.minima r.new.claimed r.new.seen r.new.acts r.result.counts in
     too_wide X G c.loop-j-test.true (get_or c.open_split-o.result.rows.children.at c.loop-j.j 0) (child-read X c.loop-j.j c.loop-j-test.true) E₁ r.result.kept r.ensures (sym c.is_IsWide.ensures ∙ c.if-is_wide.true)
 
 -- src/nodes.rt:163:21
@@ -219,7 +219,7 @@ normalize_split-place-p-requires t c =
     let r = c.normalize_node-w in
     let lt = c.loop-j-test.true in
     let narrow = sym c.is_IsWide.ensures ∙ c.if-is_wide.false in
-    let E₁ = cols r.new.0 r.new.1.0 r.new.1.1.0 r.new.1.1.1.0 r.new.1.1.1.1.0 r.new.1.1.1.1.1.0 r.new.1.1.1.1.1.1.0 r.result.counts in
+    let E₁ = cols r.new.heads r.new.ids r.new.shares r.new.minima r.new.claimed r.new.seen r.new.acts r.result.counts in
     let Z = r.ensures.sized in
     (Z.heads, Z.ids, Z.shares, Z.minima, Z.slim, record { even = G.even; long = c.loop-j.invariant.2 }, omega (arith, Z.listing), not_wide r.result.kept narrow)
 
@@ -239,11 +239,11 @@ normalize_split-returns-then-p t c =
     let r = c.normalize_node-w in
     let lt = c.loop-j-test.true in
     let narrow = sym c.is_IsWide.ensures ∙ c.if-is_wide.false in
-    let E₁ = cols r.new.0 r.new.1.0 r.new.1.1.0 r.new.1.1.1.0 r.new.1.1.1.1.0 r.new.1.1.1.1.1.0 r.new.1.1.1.1.1.1.0 r.result.counts in
+    let E₁ = cols r.new.heads r.new.ids r.new.shares r.new.minima r.new.claimed r.new.seen r.new.acts r.result.counts in
     let q = c.place-p in
     let o = c.open_split-o.result in
-    too_many X G lt (get_or c.open_split-o.result.rows.children.at c.loop-j.j 0) (child-read X c.loop-j.j lt) E₁ r.result.kept r.ensures narrow (cols q.new.0 r.new.1.0 r.new.1.1.0 r.new.1.1.1.0 r.new.1.1.1.1.0 r.new.1.1.1.1.1.0 q.new.1.1.1.1.0 q.result.counts) (kids_in q.new.1.1.1.1.1.0 q.new.1.1.1.1.1.1.0 q.new.1.1.1.1.1.1.1.0 q.result.tally.len q.result.tally.moved) q.result.wide
-    (q.ensures.1 r.new.1.1.1.1.0 r.new.1.1.1.1.1.0
+    too_many X G lt (get_or c.open_split-o.result.rows.children.at c.loop-j.j 0) (child-read X c.loop-j.j lt) E₁ r.result.kept r.ensures narrow (cols q.new.heads r.new.ids r.new.shares r.new.minima r.new.claimed r.new.seen q.new.acts q.result.counts) (kids_in q.new.cs q.new.ss q.new.ms q.result.tally.len q.result.tally.moved) q.result.wide
+    (q.ensures.1 r.new.claimed r.new.seen
     (entry (tile (get_or (ids o.rows.children) c.loop-j.j 0)) (get_or (reals o.rows.shares) c.loop-j.j zero-f) (get_or (reals o.rows.minima) c.loop-j.j zero-f))
     (share-read X c.loop-j.j lt) (minimum-read X c.loop-j.j lt) r.ensures.sized
     (room-placed X G lt (get_or c.open_split-o.result.rows.children.at c.loop-j.j 0) (child-read X c.loop-j.j lt) E₁ r.result.kept r.ensures)) c.if-p.true
@@ -270,11 +270,11 @@ normalize_split-loop-j-preserved t c = (
       let r = c.normalize_node-w in
       let lt = c.loop-j-test.true in
       let narrow = sym c.is_IsWide.ensures ∙ c.if-is_wide.false in
-      let E₁ = cols r.new.0 r.new.1.0 r.new.1.1.0 r.new.1.1.1.0 r.new.1.1.1.1.0 r.new.1.1.1.1.1.0 r.new.1.1.1.1.1.1.0 r.result.counts in
+      let E₁ = cols r.new.heads r.new.ids r.new.shares r.new.minima r.new.claimed r.new.seen r.new.acts r.result.counts in
       let q = c.place-p in
       let o = c.open_split-o.result in
-      one_more X G lt (get_or o.rows.children.at c.loop-j.j 0) (child-read X c.loop-j.j lt) E₁ r.result.kept r.ensures narrow (cols q.new.0 r.new.1.0 r.new.1.1.0 r.new.1.1.1.0 r.new.1.1.1.1.0 r.new.1.1.1.1.1.0 q.new.1.1.1.1.0 q.result.counts) (kids_in q.new.1.1.1.1.1.0 q.new.1.1.1.1.1.1.0 q.new.1.1.1.1.1.1.1.0 q.result.tally.len q.result.tally.moved) q.result.wide
-      (q.ensures.1 r.new.1.1.1.1.0 r.new.1.1.1.1.1.0
+      one_more X G lt (get_or o.rows.children.at c.loop-j.j 0) (child-read X c.loop-j.j lt) E₁ r.result.kept r.ensures narrow (cols q.new.heads r.new.ids r.new.shares r.new.minima r.new.claimed r.new.seen q.new.acts q.result.counts) (kids_in q.new.cs q.new.ss q.new.ms q.result.tally.len q.result.tally.moved) q.result.wide
+      (q.ensures.1 r.new.claimed r.new.seen
       (entry (tile (get_or (ids o.rows.children) c.loop-j.j 0)) (get_or (reals o.rows.shares) c.loop-j.j zero-f) (get_or (reals o.rows.minima) c.loop-j.j zero-f))
       (share-read X c.loop-j.j lt) (minimum-read X c.loop-j.j lt) r.ensures.sized
       (room-placed X G lt (get_or o.rows.children.at c.loop-j.j 0) (child-read X c.loop-j.j lt) E₁ r.result.kept r.ensures)) c.if-p.false,
@@ -309,5 +309,5 @@ normalize_split-returns t c =
     let r = c.split_done in
     let l = c.loop-j in
     all_done X G c.loop-j-test.false
-    (cols r.new.0 r.new.1.0 r.new.1.1.0 r.new.1.1.1.0 l.claimed l.seen r.new.1.1.1.1.0 r.result.counts) r.result.kept
+    (cols r.new.heads r.new.ids r.new.shares r.new.minima l.claimed l.seen r.new.acts r.result.counts) r.result.kept
     (r.ensures l.claimed l.seen G.sized (room-end X G))

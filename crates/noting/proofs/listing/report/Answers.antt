@@ -9,7 +9,7 @@ use Rattle.noting.proofs.listing.report.Goals as goal
 
 pub loop-i-init : goal.loop-i-init
 loop-i-init c =
-    (omega arith, mapped-none listed_from c.args.acts.now 1300 c.sized.ensures _ (length-replicate 1300 c.Listed-of.result))
+    (omega arith, mapped-none listed_from c.args.acts.now 1300 c.sized.ensures _ (length-replicate 1300 c.listed_of-none.result))
 
 pub bounds-acts-i : goal.bounds-acts-i
 bounds-acts-i c = omega (arith, c.sized.ensures, c.requires)

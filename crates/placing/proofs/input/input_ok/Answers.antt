@@ -5,4 +5,4 @@ use Rattle.placing.proofs.input.input_ok.Goals as goal
 
 pub returns : goal.returns
 unfolding input_ok
-returns c = λ i. c.bounds_ok-bounds.ensures i && c.thickness_ok-bar.ensures i && c.thickness_ok-handle.ensures i && c.Size-ok.ensures i
+returns c = λ i. c.bounds_ok-bounds.ensures i && c.thickness_ok-bar.ensures i && c.thickness_ok-handle.ensures i && c.size_ok-least.ensures i

@@ -13,14 +13,14 @@ pub returns-then-not-turn : goal.returns-then-not-turn
 returns-then-not-turn c =
     let a = c.args in
     let k = c.hold_all-turn in
-    ended-none a.total a.n a.shares.now a.minima.now a.sizes.now c.loop-left.sizes c.loop-left.fixed c.loop-left.passes c.loop-left.left c.loop-left.invariant c.loop-left-test.true k.new.1.1.0 k.new.1.1.1.0 k.result k.ensures.0 k.ensures.1 c.if-not-turn.true
+    ended-none a.total a.n a.shares.now a.minima.now a.sizes.now c.loop-left.sizes c.loop-left.fixed c.loop-left.passes c.loop-left.left c.loop-left.invariant c.loop-left-test.true k.new.sizes k.new.fixed k.result k.ensures.0 k.ensures.1 c.if-not-turn.true
 
 pub returns-then-turn : goal.returns-then-turn
 unfolding of_bits
 returns-then-turn c =
     let a = c.args in
     let k = c.hold_all-turn in
-    ended-flex a.total a.n a.shares.now a.minima.now a.sizes.now c.loop-left.sizes c.loop-left.fixed c.loop-left.passes c.loop-left.left c.loop-left.invariant c.loop-left-test.true k.new.1.1.0 k.new.1.1.1.0 k.result k.ensures.0 k.ensures.1 c.if-turn.true
+    ended-flex a.total a.n a.shares.now a.minima.now a.sizes.now c.loop-left.sizes c.loop-left.fixed c.loop-left.passes c.loop-left.left c.loop-left.invariant c.loop-left-test.true k.new.sizes k.new.fixed k.result k.ensures.0 k.ensures.1 c.if-turn.true
 
 pub spread_all-requires : goal.spread_all-requires
 spread_all-requires c =
@@ -31,7 +31,7 @@ unfolding of_bits
 loop-left-preserved c =
     let a = c.args in
     let k = c.hold_all-turn in
-    running-on a.total a.n a.shares.now a.minima.now a.sizes.now c.loop-left.sizes c.loop-left.fixed c.loop-left.passes c.loop-left.left c.loop-left.invariant c.loop-left-test.true k.new.1.1.0 k.new.1.1.1.0 k.result k.ensures.0 k.ensures.1 c.if-not-turn.false c.if-turn.false c.larger-room.result c.larger-room.ensures c.spread_all.new.1.1.0 c.spread_all.ensures
+    running-on a.total a.n a.shares.now a.minima.now a.sizes.now c.loop-left.sizes c.loop-left.fixed c.loop-left.passes c.loop-left.left c.loop-left.invariant c.loop-left-test.true k.new.sizes k.new.fixed k.result k.ensures.0 k.ensures.1 c.if-not-turn.false c.if-turn.false c.larger-room.result c.larger-room.ensures c.spread_all.new.sizes c.spread_all.ensures
 
 pub returns : goal.returns
 returns c =

@@ -19,7 +19,7 @@ pub loop-j-init : goal.loop-j-init
 unfolding pad_to of_bits
 loop-j-init c =
     let a = c.args in
-    building-start zero-f (aligned_constraints a.count (reals a.t2)) _ a.count (sym (aligned-length a.count (reals a.t2))) (omega arith) refl
+    building-start zero-f (aligned_constraints a.count (reals a.minima)) _ a.count (sym (aligned-length a.count (reals a.minima))) (omega arith) refl
 
 pub loop-j-preserved : goal.loop-j-preserved
 unfolding of_bits
@@ -27,7 +27,7 @@ loop-j-preserved c =
     let a = c.args in
     let l = c.loop-j in
     let h = c.loop-j-test.true in
-    let m = a.t2 in
+    let m = a.minima in
     let s : length m.at ≡ 16 = search rules in
     let x : c.if-j-minima.minimum ≡ get_or (reals m) l.j zero-f =
     ⊎_elim
@@ -41,4 +41,4 @@ pub returns : goal.returns
 returns c =
     let a = c.args in
     let l = c.loop-j in
-    building-done zero-f (aligned_constraints a.count (reals a.t2)) l.at a.count l.j l.invariant c.loop-j-test.false
+    building-done zero-f (aligned_constraints a.count (reals a.minima)) l.at a.count l.j l.invariant c.loop-j-test.false
