@@ -18,7 +18,9 @@ NAME = r"[^\s(){}\[\].,;:]+"
 
 def plain(name):
     name = re.sub(r"^overflow[-_]", "", name)
-    return re.sub(r"[-_]", "-", name)
+    # The kit's scripts took some callees' names for words of specs/.
+    name = re.sub(r"(?<![a-z])Is(?=[A-Z])", "", name)
+    return re.sub(r"[-_]", "-", name).lower()
 
 
 class Left(Exception):
@@ -107,6 +109,16 @@ def turned_body(body, place, fn):
         whole.add(m.group(1))
         body = body[: m.start()] + body[m.end() :]
 
+    # A let for what an arm of a match tells goes too: the arm's fields have other names.
+    told = {k[0] for k in arms}
+    while True:
+        m = next((m for m in re.finditer(r"let (" + NAME + r") = (" + NAME + r")((?:\.before)*)\.([^\s(){}\[\].,;:]+) in\s*", body) if m.group(2) in whole and plain(m.group(4)) in told), None)
+        if not m:
+            break
+        rest = body[m.end() :]
+        rest = re.sub(r"(?<![\w.'-])" + re.escape(m.group(1)) + r"(?![\w'-])", lambda x: "c." + m.group(4), rest)
+        body = body[: m.start()] + rest
+
     def path(m):
         head, rest = m.group(1), m.group(2)
         if head not in whole:
@@ -119,7 +131,7 @@ def turned_body(body, place, fn):
             if arm:
                 return ".".join(["c"] + arm + parts[n:])
         if parts:
-            name = parts[0]
+            name = "well_formed" if parts[0] == "well-formed" else parts[0]
             parts[0] = steps.get(name) or loose.get(plain(name).lower()) or name
             if len(parts) > 1 and parts[0].startswith("loop-"):
                 parts[1] = variables.get(plain(parts[1]), parts[1])
@@ -147,7 +159,7 @@ def turned_body(body, place, fn):
     body = re.sub(r"(?<![\w.'-])(" + "|".join(map(re.escape, step_of)) + r")()\.new((?:\.1)*)\.0", left, body) if step_of else body
     # A test of `!x` tells of x itself.
     called = {p[3].rsplit("::", 1)[-1] for p in fn["places"] if len(p) > 3 and p[3]}
-    for name in sorted(called, key=len, reverse=True):
+    for name in sorted(called | set(fn["parameters"].values()), key=len, reverse=True):
         step = r"c\.(if-not-" + re.escape(name) + r"(?:-[^\s()]*?)?\.(?:true|false))(?![\w'-])"
         body = re.sub(r"\(not-(?:true|false) [^\s()]+ " + step + r"\)", r"c,\1", body)
         body = re.sub(r"not-(?:true|false) [^\s()]+ " + step, r"c,\1", body)

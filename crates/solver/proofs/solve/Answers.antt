@@ -7,4 +7,5 @@ pub returns : goal.returns
 unfolding of_bits
 returns c =
     let a = c.args in
-    into-value a.total a.shares a.minima _ c.solve_into-d.result c.solve_into-d.ensures
+    let w = into-value a.total a.shares a.minima _ c.solve_into-d.result c.solve_into-d.ensures in
+    record { result_value = w.0; clear = w.1 }

@@ -16,7 +16,7 @@ returns-then-panes-active c = let a = c.args in active_past a.panes.len a.active
 pub returns-in-At : goal.returns-in-At
 returns-in-At c =
     let a = c.args in
-    let s : length a.panes.at ≡ 16 = search (rules, c.well-formed) in
+    let s : length a.panes.at ≡ 16 = search (rules, c.well_formed) in
     sym (ap (λ (p : Place). or_first (place_of p)) c.in-At.is)
     ∙ active-at a.panes.len a.active a.panes.at (ids a.kept) c.get-pane.result c.position-place.result (omega (arith, c.requires.0))
     c.if-panes-active.false c.get-pane.ensures c.position-place.ensures
@@ -24,7 +24,7 @@ returns-in-At c =
 pub returns-in-Nothing : goal.returns-in-Nothing
 returns-in-Nothing c =
     let a = c.args in
-    let s : length a.panes.at ≡ 16 = search (rules, c.well-formed) in
+    let s : length a.panes.at ≡ 16 = search (rules, c.well_formed) in
     sym (ap (λ (p : Place). or_first (place_of p)) c.in-Nothing.is)
     ∙ active-at a.panes.len a.active a.panes.at (ids a.kept) c.get-pane.result c.position-place.result (omega (arith, c.requires.0))
     c.if-panes-active.false c.get-pane.ensures c.position-place.ensures

@@ -29,7 +29,7 @@ loop-j-preserved c =
     let n = a.panes.len in
     let at = a.panes.at in
     let j = c.loop-j.j in
-    let s : length at ≡ 16 = search (rules, c.well-formed.1.1.1.1.0) in (
+    let s : length at ≡ 16 = search (rules, c.well_formed.1.1.1.1.0) in (
       sifting-more a.id (take n at) a.seen.now a.acts.now (sifting c.empty.result a.c) c.loop-j.seen c.loop-j.acts c.loop-j.s j c.loop-j.invariant.0
           (omega (arith, length-take-le n at (omega (arith, s, c.requires.0)), c.loop-j-test.true)) (get_or at j 0) (get_or-take n at j 0 c.loop-j-test.true)
           _ _ c.keep_pane-next.result c.keep_pane-next.ensures,

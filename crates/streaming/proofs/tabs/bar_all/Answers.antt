@@ -17,7 +17,7 @@ returns-then-is_hidden c =
 pub returns : goal.returns
 returns c =
     let a = c.args in
-    let few : a.count ≤ length a.panes = omega (arith, c.well-formed, c.requires) in
+    let few : a.count ≤ length a.panes = omega (arith, c.well_formed, c.requires) in
     bar-some (tile a.id) a.placement a.bar a.active a.panes a.count (same_placement a.placement Hidden) (stream a.items.now a.rects.now a.n)
     (stream c.push_bar-m.new.items c.push_bar-m.new.rects c.push_bar-m.result) (stream c.tab_all.new.items c.tab_all.new.rects c.tab_all.result)
     (sym c.is_hidden.ensures ∙ c.if-is_hidden.false) few c.requires.1 c.push_bar-m.ensures c.tab_all.ensures

@@ -18,7 +18,7 @@ returns-then-count-eq0 c =
     let a = c.args in
     let h = a.head in
     let ps = take (get_or h 4 0) a.panes in
-    let few : get_or h 4 0 ≤ length a.panes = omega (arith, c.well-formed, c.requires) in
+    let few : get_or h 4 0 ≤ length a.panes = omega (arith, c.well_formed, c.requires) in
     group-none (tile a.id) (bar_from (get_or h 1 0)) (get_or h 3 0) a.rect a.input ps (stream a.items.now a.rects.now a.n) (stream c.focus_all-m.new.items c.focus_all-m.new.rects c.focus_all-m.result)
     (length-take-le (get_or h 4 0) a.panes few ∙ c.if-count-eq0.true) c.focus_all-m.ensures
 
@@ -28,7 +28,7 @@ returns c =
     let h = a.head in
     let n = get_or h 4 0 in
     let ps = take n a.panes in
-    let few : n ≤ length a.panes = omega (arith, c.well-formed, c.requires) in
+    let few : n ≤ length a.panes = omega (arith, c.well_formed, c.requires) in
     let long : length ps ≡ n = length-take-le n a.panes few in
     let active = c.active_index-active.result in
     let some : 0 < n = pos_of_ne-zero c.if-count-eq0.false in

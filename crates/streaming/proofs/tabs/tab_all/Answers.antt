@@ -22,7 +22,7 @@ push_tab-m-requires c = tt
 pub loop-j-preserved : goal.loop-j-preserved
 loop-j-preserved c =
     let a = c.args in
-    let few : a.count ≤ length a.panes = omega (arith, c.well-formed) in (
+    let few : a.count ≤ length a.panes = omega (arith, c.well_formed) in (
       omega arith,
       tabs-more (tile a.id) a.placement a.bar a.active a.panes a.count few c.loop-j.j c.tab_rect-rect.result
           (stream c.loop-j.items c.loop-j.rects c.loop-j.m) (stream c.push_tab-m.new.items c.push_tab-m.new.rects c.push_tab-m.result)
@@ -33,7 +33,7 @@ loop-j-preserved c =
 pub returns : goal.returns
 returns c =
     let a = c.args in
-    let few : a.count ≤ length a.panes = omega (arith, c.well-formed) in
+    let few : a.count ≤ length a.panes = omega (arith, c.well_formed) in
     tabs-done (tile a.id) a.placement a.bar a.active a.panes a.count few c.loop-j.j (stream c.loop-j.items c.loop-j.rects c.loop-j.m)
     (push_all (tabs_from (tile a.id) a.active 0 (take a.count a.panes) (tab_rects a.bar a.placement a.count)) (stream a.items.now a.rects.now a.n))
     c.loop-j-test.false c.loop-j.invariant.1

@@ -1,6 +1,5 @@
 -- `util::minima::aligned_constraints` fills a fresh list with mended minima. Assumes nothing.
 use mathlib.Core.Path.{◌≡◌, refl, sym, ap, ◌∙◌}
-use mathlib.Core.Logic.{⊎_elim}
 use native.Mathlib.Omega.{arith}
 use borrow.Author.Rules.{rules}
 use lib.ListN.{length, get_or}
@@ -14,6 +13,7 @@ use Rattle.lists.specs.Places.{get_d-used, get_d-unused}
 use Rattle.lists.specs.Build.{building-start, building-more, building-done}
 use Rattle.util.specs.Entries.{aligned_at}
 use Rattle.util.proofs.minima.aligned_constraints.Goals as goal
+use Rattle.util.proofs.minima.aligned_constraints.Goals.{then-j-minima, else-j-minima}
 
 pub loop-j-init : goal.loop-j-init
 unfolding pad_to of_bits
@@ -30,10 +30,10 @@ loop-j-preserved c =
     let m = a.minima in
     let s : length m.at ≡ 16 = search rules in
     let x : c.if-j-minima.minimum ≡ get_or (reals m) l.j zero-f =
-    ⊎_elim
-    (λ w. w.2 ∙ get_d-used m.len m.at l.j zero-f nan w.0.taken (omega arith))
-    (λ w. w.1 ∙ get_d-unused m.len m.at l.j zero-f w.0.left)
-    c.if-j-minima.branch in
+    elim c.if-j-minima.branch [
+      | then-j-minima w ↦ w.minimum-is ∙ get_d-used m.len m.at l.j zero-f nan w.if-j-minima.true (omega arith)
+      | else-j-minima w ↦ w.minimum-is ∙ get_d-unused m.len m.at l.j zero-f w.if-j-minima.false
+    ] in
     building-more zero-f (aligned_constraints a.count (reals m)) l.at a.count l.j c.fix_minimum.result l.invariant h
     (c.fix_minimum.ensures ∙ ap fix_minimum x ∙ sym (aligned_at a.count (reals m) l.j h))
 
