@@ -145,6 +145,12 @@ def turned_body(body, place, fn):
     body = re.sub(r"(?<![\w.'-])(" + "|".join(sorted(map(re.escape, whole), key=len, reverse=True)) + r")((?:\.[^\s(){}\[\].,;:]+)*)(?![\w'-])", path, body)
     # What a call leaves in the places lent has its parameter's name now, and had its number.
     callees = {p[2][1]: fn["params"].get(p[3], []) for p in fn["places"] if len(p) > 3 and p[3]}
+    while True:
+        m = re.search(r"let (" + NAME + r") = (" + NAME + r"\.new) in\s*", body) or re.search(r"let (" + NAME + r") = (c\.[^\s(){}\[\].,;:]+\.new) in\s*", body)
+        if not m:
+            break
+        rest = re.sub(r"(?<![\w.'-])" + re.escape(m.group(1)) + r"(?=\.[01])", m.group(2), body[m.end() :])
+        body = body[: m.start()] + rest
     step_of = {m.group(1): m.group(2) for m in re.finditer(r"let (" + NAME + r") = c\.([^\s(){}\[\].,;:]+) in", body)}
 
     def left(m):

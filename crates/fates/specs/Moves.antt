@@ -1,4 +1,4 @@
--- What a move does to the panes of a sound tree: the pane taken out and put in again; and so Every operation. Assumes nothing.
+-- What a move does to the panes of a sound tree: the pane taken out and put in again; and so every operation. Assumes nothing.
 use Rattle.std.specs.Prelude.{◌≡◌, ◌⊎◌, true, false, List, [], ◌∷◌, ℕ, length, get_or}
 use Rattle.std.proofs.Math.Path.{refl}
 use Rattle.std.proofs.Common.{sym, ap, subst, ◌∙◌, inl, inr, arith, get_or-set_same}
@@ -181,7 +181,7 @@ module _ (a : Arena) (size : length a.nodes ≡ 64) (full : (i : ℕ) → is_emp
   move-fate p (in_tile i) h t = move_in p (in_tile i) h refl t
   move-fate p (in_tabs g i) h t = move_in p (in_tabs g i) h refl t
 
-  -- ---- Every operation
+  -- ---- every operation
 
   pub inner-fate : (op : TileOp) → Fate a size full O (Spares op) (Brings op) (apply_inner a op)
   unfolding apply_inner

@@ -1,5 +1,5 @@
 // The public call's input, read in one loop, since the sums' additions wait for each other and the tests do not: the Rust's
-// `prove!`s, its two sums, and the minima with minus zero as zero.
+// `debug_assert!`s, its two sums, and the minima with minus zero as zero.
 ghost use Rattle.std.specs.Prelude.{◌≡◌, ◌≤◌, length};
 ghost use Rattle.loops.specs.Given.{Reads};
 

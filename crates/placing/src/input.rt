@@ -1,4 +1,4 @@
-// The input of a layout: the Rust's `prove!`s on it, with document 01's limits.
+// The input of a layout: the Rust's `debug_assert!`s on it, with document 01's limits.
 ghost use Rattle.std.specs.Prelude.{◌≡◌};
 ghost use Rattle.rules.specs.Frame as Rule;
 

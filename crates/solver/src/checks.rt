@@ -1,4 +1,4 @@
-// The tests of the public call before its lists are read: document 01's limit of 16, the Rust's `prove_eq!` of the counts, and the total.
+// The tests of the public call before its lists are read: document 01's limit of 16, the Rust's `debug_assert_eq!` of the counts, and the total.
 ghost use Rattle.std.specs.Prelude.{◌≡◌};
 ghost use Rattle.solver.specs.Call.{counts_ok};
 

@@ -19,17 +19,17 @@ returns-then-t-at t c =
     let rows = rows_at bytes t in
     let k0 = c.args.kids.now in
     let at = c.args.at in
-    let pre = c.requires.1 in
+    let pre = c.requires in
     let q = len in pushed_none rows k0 at pre.size (omega (arith, pre.within)) (omega (arith, c.if-t-at.true))
 
 pub known_row-row-requires : goal.known_row-row-requires
 known_row-row-requires t c =
-    let pre = c.requires.1 in
+    let pre = c.requires in
     (pre.placed, c.if-t-at.false)
 
 pub overflow_add-next : goal.overflow_add-next
 overflow_add-next t c =
-    let pre = c.requires.1 in
+    let pre = c.requires in
     omega (arith, c.if-t-at.false, pre.few)
 
 pub loop-left-init : goal.loop-left-init
@@ -41,7 +41,7 @@ loop-left-init t c =
     let n = c.children_used-n.result in
     let k0 = c.args.kids.now in
     let len = length-entries bytes t.rows t.row_count row_from in
-    let pre = c.requires.1 in
+    let pre = c.requires in
     (omega arith, fill_none (fill_start rows at n k0 (let q = len in omega (arith, c.if-t-at.false)) pre.size))
 
 pub overflow_sub-j : goal.overflow_sub-j
@@ -58,7 +58,7 @@ overflow_mul-kids t c =
     let rows = rows_at bytes t in
     let at = c.args.at in
     let len = length-entries bytes t.rows t.row_count row_from in
-    let pre = c.requires.1 in
+    let pre = c.requires in
     let few : n ≤ 16 = (let q = row-narrow rows at pane_row (let q = len in omega (arith, at-if1.false)) pre.narrow in omega (arith, at-children-used.ensures, ap children_used at-known-row.ensures)) in omega (arith, at-if1.false, pre.few, c.loop-left-test.true, c.loop-left.invariant.0)
 
 pub overflow_add-kids : goal.overflow_add-kids
@@ -72,7 +72,7 @@ overflow_add-kids t c =
     let rows = rows_at bytes t in
     let at = c.args.at in
     let len = length-entries bytes t.rows t.row_count row_from in
-    let pre = c.requires.1 in
+    let pre = c.requires in
     let few : n ≤ 16 = (let q = row-narrow rows at pane_row (let q = len in omega (arith, at-if1.false)) pre.narrow in omega (arith, at-children-used.ensures, ap children_used at-known-row.ensures)) in omega (arith, at-if1.false, pre.few, c.loop-left-test.true, c.loop-left.invariant.0)
 
 pub offset_bounds-kids-at : goal.offset_bounds-kids-at
@@ -86,7 +86,7 @@ offset_bounds-kids-at t c =
     let rows = rows_at bytes t in
     let at = c.args.at in
     let len = length-entries bytes t.rows t.row_count row_from in
-    let pre = c.requires.1 in
+    let pre = c.requires in
     let few : n ≤ 16 = (let q = row-narrow rows at pane_row (let q = len in omega (arith, at-if1.false)) pre.narrow in omega (arith, at-children-used.ensures, ap children_used at-known-row.ensures)) in omega (arith, at-if1.false, pre.few, c.loop-left-test.true, c.loop-left.invariant.0)
 
 pub bounds-kids-at : goal.bounds-kids-at
@@ -100,7 +100,7 @@ bounds-kids-at t c =
     let rows = rows_at bytes t in
     let at = c.args.at in
     let len = length-entries bytes t.rows t.row_count row_from in
-    let pre = c.requires.1 in
+    let pre = c.requires in
     let few : n ≤ 16 = (let q = row-narrow rows at pane_row (let q = len in omega (arith, at-if1.false)) pre.narrow in omega (arith, at-children-used.ensures, ap children_used at-known-row.ensures)) in omega (arith, at-if1.false, pre.few, c.loop-left-test.true, c.loop-left.invariant.0, c.loop-left.invariant.1.size)
 
 pub push_spec-next-requires : goal.push_spec-next-requires
@@ -110,8 +110,8 @@ push_spec-next-requires t c =
     let bytes = c.args.b.now in
     let t = c.args.t in
     let len = length-entries bytes t.rows t.row_count row_from in
-    let pre = c.requires.1 in
-    let q = len in (omega (arith, c.requires.0, at-loop.invariant.1.low, at-loop.invariant.1.high, at-if1.false), record { placed = pre.placed; few = pre.few; narrow = pre.narrow; within = omega (arith, at-loop.invariant.1.high); size = simp length-set at-loop.invariant.1.size })
+    let pre = c.requires in
+    let q = len in (omega (arith, at-loop.invariant.1.low, at-loop.invariant.1.high, at-if1.false), record { placed = pre.placed; few = pre.few; narrow = pre.narrow; within = omega (arith, at-loop.invariant.1.high); size = simp length-set at-loop.invariant.1.size })
 
 pub overflow_sub-left : goal.overflow_sub-left
 overflow_sub-left t c = omega (arith, c.loop-left-test.true)
@@ -134,7 +134,7 @@ loop-left-preserved t c =
     let k0 = c.args.kids.now in
     let j = n - at-loop.left in
     let len = length-entries bytes t.rows t.row_count row_from in
-    let pre = c.requires.1 in
+    let pre = c.requires in
     (omega (arith, at-loop.invariant.0), fill-counted at-loop.left at-loop-test.true at-loop.invariant.0 (fill_more rows at n k0 at-loop.kids _ j at-loop.next c.push_spec-next.result at-loop.invariant.1 (omega (arith, at-loop-test.true, at-loop.invariant.0)) (let q = row-narrow rows at pane_row (let q = len in omega (arith, at-if1.false)) pre.narrow in omega (arith, at-children-used.ensures, ap children_used at-known-row.ensures)) (omega (arith, at-if1.false, pre.few)) pre.narrow c.push_spec-next.ensures))
 
 pub returns : goal.returns

@@ -50,12 +50,11 @@ reals_of-ss-requires c =
 
 pub reals_of-ms-requires : goal.reals_of-ms-requires
 reals_of-ms-requires c =
-    let at-row2 = c.row-in-Split-1 in
     let t = c.args.t in
     let p = c.args.p in
     let s = c.args.s in
     let m = c.args.m in
-    let e = at-row2.given.1 in
+    let e = c.in-Split.is in
     let rm = subst (λ (r : TableRow). Room t (row_is r) p s m) (e) c.requires.1 in
     let ft = subst (λ (r : TableRow). Fit (row_is r)) (e) c.requires.2 in
     (c.requires.0.minima, rm.minima, ft.minima)
@@ -93,7 +92,6 @@ returns-in-Tabs c =
 
 pub returns-in-Split : goal.returns-in-Split
 returns-in-Split c =
-    let at-row2 = c.row-in-Split-1 in
     let at-children-of = c.children_of-c in
     let k = c.args.kids.now in
     let i = c.args.i in
@@ -103,6 +101,6 @@ returns-in-Split c =
     let p = c.args.p in
     let s = c.args.s in
     let m = c.args.m in
-    let e = at-row2.given.1 in
+    let e = c.in-Split.is in
     let to = ap (λ (r : TableRow). row_node k i (row_is r) (left_at table p s m)) (sym (e)) in
-    subst (λ (n : Node). SlotIs c.split_from.result n) ((λ j. split at-row2.given.0.0 (at-children-of.ensures.list j) (c.reals_of-ss.ensures.list j) (c.reals_of-ms.ensures.list j)) ∙ to) c.split_from.ensures
+    subst (λ (n : Node). SlotIs c.split_from.result n) ((λ j. split c.in-Split.axis (at-children-of.ensures.list j) (c.reals_of-ss.ensures.list j) (c.reals_of-ms.ensures.list j)) ∙ to) c.split_from.ensures

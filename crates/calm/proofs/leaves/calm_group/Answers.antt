@@ -1,4 +1,4 @@
--- `calm::leaves::calm_group` is `calm_group`, whatever is claimed. Assumes nothing.
+-- `calm::leaves::calm_group` is the rule `calm_group`, whatever is claimed. Assumes nothing.
 use Rattle.calm.proofs.Laws.{group-no, group-yes}
 use Rattle.calm.proofs.leaves.calm_group.Goals as goal
 

@@ -1,4 +1,4 @@
--- `calm::leaves::calm_pane` is `calm_panes` of one pane. Assumes nothing.
+-- `calm::leaves::calm_pane` is the rule `calm_panes` of one pane. Assumes nothing.
 use mathlib.Core.Path.{sym, ◌∙◌}
 use Rattle.calm.proofs.Laws.{sights-no, sights-yes}
 use Rattle.calm.proofs.leaves.calm_pane.Goals as goal

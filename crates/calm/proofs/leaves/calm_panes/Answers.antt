@@ -1,4 +1,4 @@
--- `calm::leaves::calm_panes` is `calm_panes`: its loop, by what is left. Assumes nothing.
+-- `calm::leaves::calm_panes` is the rule `calm_panes`: its loop, by what is left. Assumes nothing.
 use native.Mathlib.Omega.{arith}
 use borrow.Author.Tests.{not-true, not-false}
 use lib.ListN.{take, get_or, length-take}

@@ -1,4 +1,4 @@
--- `calm::leaves::calm_panes` is `calm_panes`: its loop, by what is left. Assumes nothing.
+-- `calm::leaves::calm_panes` is the rule `calm_panes`: its loop, by what is left. Assumes nothing.
 use Prim.Native.Nat.{◌-◌}
 use lib.ListN.{take}
 use Rattle.calm.proofs.Laws.{Looking}

@@ -1,4 +1,4 @@
--- `calm::nodes::calm_node` is `calm`, and `calm_split` is `calm_split`: fuel falls from tile to tile. Assumes nothing.
+-- `calm::nodes::calm_node` is the rule `calm`, and `calm_split` the rule of its name: fuel falls from tile to tile. Assumes nothing.
 use mathlib.Core.Path.{ap, ◌∙◌}
 use mathlib.Core.List.{[]}
 use Prim.Native.Nat.{ℕ}
@@ -20,7 +20,7 @@ calm_node-stopped-requires t c = tt
 pub calm_node-returns-then-depth-eq0 : goal.calm_node-returns-then-depth-eq0
 calm_node-returns-then-depth-eq0 t c =
     let x = c.args in
-    let G = c.requires.1.0 in
+    let G = c.requires.0 in
     ends _ x.claimed.now x.claimed.now x.n x.seen.now c.stopped.result (calm-zero (nodes_from x.heads.now x.ids.now x.shares.now x.minima.now) x.id x.claimed.now (take x.n x.seen.now) x.depth c.if-depth-eq0.true)
     c.stopped.ensures.0 G.flags (omega (arith, c.stopped.ensures.1))
 
@@ -30,7 +30,7 @@ calm_node-stopped-requires-then-id-ge64 t c = tt
 pub calm_node-returns-then-id-ge64 : goal.calm_node-returns-then-id-ge64
 calm_node-returns-then-id-ge64 t c =
     let x = c.args in
-    let G = c.requires.1.0 in
+    let G = c.requires.0 in
     ends _ x.claimed.now x.claimed.now x.n x.seen.now c.stopped-then-id-ge64.result (calm-out (nodes_from x.heads.now x.ids.now x.shares.now x.minima.now) x.id x.claimed.now (take x.n x.seen.now) c.if-id-ge64.true x.depth)
     c.stopped-then-id-ge64.ensures.0 G.flags (omega (arith, c.stopped-then-id-ge64.ensures.1))
 
@@ -40,7 +40,7 @@ calm_node-stopped-requires-then-claimed-i t c = tt
 pub calm_node-returns-then-claimed-i : goal.calm_node-returns-then-claimed-i
 calm_node-returns-then-claimed-i t c =
     let x = c.args in
-    let G = c.requires.1.0 in
+    let G = c.requires.0 in
     ends _ x.claimed.now x.claimed.now x.n x.seen.now c.stopped-then-claimed-i.result (calm-claimed (nodes_from x.heads.now x.ids.now x.shares.now x.minima.now) x.id x.claimed.now (take x.n x.seen.now) c.if-id-ge64.false c.if-claimed-i.true x.depth)
     c.stopped-then-claimed-i.ensures.0 G.flags (omega (arith, c.stopped-then-claimed-i.ensures.1))
 
@@ -50,7 +50,7 @@ calm_node-stopped-requires-then-kind-eq0 t c = tt
 pub calm_node-returns-then-kind-eq0 : goal.calm_node-returns-then-kind-eq0
 calm_node-returns-then-kind-eq0 t c =
     let x = c.args in
-    let G = c.requires.1.0 in
+    let G = c.requires.0 in
     let ns = nodes_from x.heads.now x.ids.now x.shares.now x.minima.now in
     let h = get_or x.heads.now x.id [] in
     let inside = c.if-id-ge64.false in
@@ -64,7 +64,7 @@ calm_node-returns-then-kind-eq0 t c =
 pub calm_node-calm_pane-requires : goal.calm_node-calm_pane-requires
 calm_node-calm_pane-requires t c =
     let x = c.args in
-    let G = c.requires.1.0 in
+    let G = c.requires.0 in
     let ns = nodes_from x.heads.now x.ids.now x.shares.now x.minima.now in
     let h = get_or x.heads.now x.id [] in
     let inside = c.if-id-ge64.false in
@@ -72,12 +72,12 @@ calm_node-calm_pane-requires t c =
     let deep = pos_of_ne-zero c.if-depth-eq0.false in
     let is = nodes-at x.heads.now x.ids.now x.shares.now x.minima.now G.heads G.ids G.shares G.minima x.id in
     let by : ℕ → Node = λ k. node_by k h (get_or x.ids.now x.id []) (get_or x.shares.now x.id []) (get_or x.minima.now x.id []) in
-    omega (arith, c.requires.1.1, one_less x.claimed.now x.id G.flags inside open-yet x.seen.now x.n)
+    omega (arith, c.requires.1, one_less x.claimed.now x.id G.flags inside open-yet x.seen.now x.n)
 
 pub calm_node-returns-then-kind-eq1 : goal.calm_node-returns-then-kind-eq1
 calm_node-returns-then-kind-eq1 t c =
     let x = c.args in
-    let G = c.requires.1.0 in
+    let G = c.requires.0 in
     let ns = nodes_from x.heads.now x.ids.now x.shares.now x.minima.now in
     let h = get_or x.heads.now x.id [] in
     let inside = c.if-id-ge64.false in
@@ -90,13 +90,13 @@ calm_node-returns-then-kind-eq1 t c =
 
 pub calm_node-measured-requires : goal.calm_node-measured-requires
 calm_node-measured-requires t c =
-    let G = c.requires.1.0 in
+    let G = c.requires.0 in
     (c.if-id-ge64.false, G.ids, G.shares, G.minima)
 
 pub calm_node-calm_group-requires : goal.calm_node-calm_group-requires
 calm_node-calm_group-requires t c =
     let x = c.args in
-    let G = c.requires.1.0 in
+    let G = c.requires.0 in
     let ns = nodes_from x.heads.now x.ids.now x.shares.now x.minima.now in
     let h = get_or x.heads.now x.id [] in
     let inside = c.if-id-ge64.false in
@@ -104,12 +104,12 @@ calm_node-calm_group-requires t c =
     let deep = pos_of_ne-zero c.if-depth-eq0.false in
     let is = nodes-at x.heads.now x.ids.now x.shares.now x.minima.now G.heads G.ids G.shares G.minima x.id in
     let by : ℕ → Node = λ k. node_by k h (get_or x.ids.now x.id []) (get_or x.shares.now x.id []) (get_or x.minima.now x.id []) in
-    ((G.slim x.id).0, omega (arith, c.requires.1.1, one_less x.claimed.now x.id G.flags inside open-yet x.seen.now x.n), c.measured.ensures.children)
+    ((G.slim x.id).0, omega (arith, c.requires.1, one_less x.claimed.now x.id G.flags inside open-yet x.seen.now x.n), c.measured.ensures.children)
 
 pub calm_node-returns-then-kind-eq2 : goal.calm_node-returns-then-kind-eq2
 calm_node-returns-then-kind-eq2 t c =
     let x = c.args in
-    let G = c.requires.1.0 in
+    let G = c.requires.0 in
     let ns = nodes_from x.heads.now x.ids.now x.shares.now x.minima.now in
     let h = get_or x.heads.now x.id [] in
     let inside = c.if-id-ge64.false in
@@ -123,7 +123,7 @@ calm_node-returns-then-kind-eq2 t c =
 pub calm_node-calm_split-requires : goal.calm_node-calm_split-requires
 calm_node-calm_split-requires t c =
     let x = c.args in
-    let G = c.requires.1.0 in
+    let G = c.requires.0 in
     let ns = nodes_from x.heads.now x.ids.now x.shares.now x.minima.now in
     let h = get_or x.heads.now x.id [] in
     let inside = c.if-id-ge64.false in
@@ -132,10 +132,10 @@ calm_node-calm_split-requires t c =
     let is = nodes-at x.heads.now x.ids.now x.shares.now x.minima.now G.heads G.ids G.shares G.minima x.id in
     let by : ℕ → Node = λ k. node_by k h (get_or x.ids.now x.id []) (get_or x.shares.now x.id []) (get_or x.minima.now x.id []) in
     let less = one_less x.claimed.now x.id G.flags inside open-yet x.seen.now x.n in (
-      omega (arith, c.requires.0, deep),
+      omega (arith, deep),
       (
         record { heads = G.heads; ids = G.ids; shares = G.shares; minima = G.minima; flags = long' x.claimed.now x.id G.flags inside open-yet x.seen.now x.n; slim = G.slim },
-        omega (arith, c.requires.1.1, less),
+        omega (arith, c.requires.1, less),
         inside,
       ),
     )
@@ -143,7 +143,7 @@ calm_node-calm_split-requires t c =
 pub calm_node-returns : goal.calm_node-returns
 calm_node-returns t c =
     let x = c.args in
-    let G = c.requires.1.0 in
+    let G = c.requires.0 in
     let ns = nodes_from x.heads.now x.ids.now x.shares.now x.minima.now in
     let h = get_or x.heads.now x.id [] in
     let inside = c.if-id-ge64.false in
@@ -156,12 +156,12 @@ calm_node-returns t c =
 
 pub calm_split-measured-requires : goal.calm_split-measured-requires
 calm_split-measured-requires t c =
-    let p = c.requires.1 in
+    let p = c.requires in
     (p.2, p.0.ids, p.0.shares, p.0.minima)
 
 pub calm_split-lists_calm-requires : goal.calm_split-lists_calm-requires
 calm_split-lists_calm-requires t c =
-    let p = c.requires.1 in
+    let p = c.requires in
     let R = c.measured.ensures in
     (p.2, p.0.heads, p.0.shares, p.0.minima, p.0.slim c.args.id, R.shares, R.minima)
 
@@ -171,7 +171,7 @@ calm_split-stopped-requires t c = tt
 pub calm_split-returns-then-not-lists_calm : goal.calm_split-returns-then-not-lists_calm
 calm_split-returns-then-not-lists_calm t c =
     let x = c.args in
-    let G = c.requires.1.0 in
+    let G = c.requires.0 in
     let ns = nodes_from x.heads.now x.ids.now x.shares.now x.minima.now in
     let h = get_or x.heads.now x.id [] in
     let xs = get_or x.ids.now x.id [] in
@@ -189,7 +189,7 @@ calm_split-returns-then-not-lists_calm t c =
 pub calm_split-loop-j-init : goal.calm_split-loop-j-init
 calm_split-loop-j-init t c =
     let x = c.args in
-    let G = c.requires.1.0 in
+    let G = c.requires.0 in
     let ns = nodes_from x.heads.now x.ids.now x.shares.now x.minima.now in
     let h = get_or x.heads.now x.id [] in
     let xs = get_or x.ids.now x.id [] in
@@ -205,18 +205,18 @@ calm_split-loop-j-init t c =
 
 pub calm_split-offset_bounds-ids-j : goal.calm_split-offset_bounds-ids-j
 calm_split-offset_bounds-ids-j t c =
-    let few = (c.requires.1.0.slim c.args.id).0 in
+    let few = (c.requires.0.slim c.args.id).0 in
     search (rules, few)
 
 pub calm_split-bounds-ids-j : goal.calm_split-bounds-ids-j
 calm_split-bounds-ids-j t c =
-    let few = (c.requires.1.0.slim c.args.id).0 in
+    let few = (c.requires.0.slim c.args.id).0 in
     search (rules, few)
 
 pub calm_split-calm_node-w-requires : goal.calm_split-calm_node-w-requires
 calm_split-calm_node-w-requires t c =
     let x = c.args in
-    let G = c.requires.1.0 in
+    let G = c.requires.0 in
     let ns = nodes_from x.heads.now x.ids.now x.shares.now x.minima.now in
     let h = get_or x.heads.now x.id [] in
     let xs = get_or x.ids.now x.id [] in
@@ -229,10 +229,10 @@ calm_split-calm_node-w-requires t c =
     let ok = c.lists_calm.result in
     let told = c.lists_calm.ensures in
     let inv = c.loop-j.invariant few R in (
-      omega (arith, c.requires.0),
+      omega (arith),
       (
         record { heads = G.heads; ids = G.ids; shares = G.shares; minima = G.minima; flags = inv.flags; slim = G.slim },
-        omega (arith, c.requires.1.1, inv.room),
+        omega (arith, c.requires.1, inv.room),
       ),
     )
 
@@ -242,7 +242,7 @@ calm_split-stopped-requires-then-not-w t c = tt
 pub calm_split-returns-then-not-w : goal.calm_split-returns-then-not-w
 calm_split-returns-then-not-w t c =
     let x = c.args in
-    let G = c.requires.1.0 in
+    let G = c.requires.0 in
     let ns = nodes_from x.heads.now x.ids.now x.shares.now x.minima.now in
     let h = get_or x.heads.now x.id [] in
     let xs = get_or x.ids.now x.id [] in
@@ -262,11 +262,11 @@ calm_split-returns-then-not-w t c =
 
 pub calm_split-minimum_at-minimum-requires : goal.calm_split-minimum_at-minimum-requires
 calm_split-minimum_at-minimum-requires t c =
-    let p = c.requires.1 in
+    let p = c.requires in
     (p.2, (p.0.slim c.args.id).2, p.0.minima, c.measured.ensures.minima)
 
 pub calm_split-melts_in-requires : goal.calm_split-melts_in-requires
-calm_split-melts_in-requires t c = c.requires.1.0.heads
+calm_split-melts_in-requires t c = c.requires.0.heads
 
 pub calm_split-stopped-requires-then-melts_in : goal.calm_split-stopped-requires-then-melts_in
 calm_split-stopped-requires-then-melts_in t c = tt
@@ -274,7 +274,7 @@ calm_split-stopped-requires-then-melts_in t c = tt
 pub calm_split-returns-then-melts_in : goal.calm_split-returns-then-melts_in
 calm_split-returns-then-melts_in t c =
     let x = c.args in
-    let G = c.requires.1.0 in
+    let G = c.requires.0 in
     let ns = nodes_from x.heads.now x.ids.now x.shares.now x.minima.now in
     let h = get_or x.heads.now x.id [] in
     let xs = get_or x.ids.now x.id [] in
@@ -295,7 +295,7 @@ calm_split-returns-then-melts_in t c =
 
 pub calm_split-overflow_add-j : goal.calm_split-overflow_add-j
 calm_split-overflow_add-j t c =
-    let few = (c.requires.1.0.slim c.args.id).0 in
+    let few = (c.requires.0.slim c.args.id).0 in
     let lt = c.loop-j-test.true in
     search (rules, few, lt)
 
@@ -305,7 +305,7 @@ calm_split-loop-j-smaller t c = omega (arith, c.loop-j-test.true)
 pub calm_split-loop-j-preserved : goal.calm_split-loop-j-preserved
 calm_split-loop-j-preserved t c =
     let x = c.args in
-    let G = c.requires.1.0 in
+    let G = c.requires.0 in
     let ns = nodes_from x.heads.now x.ids.now x.shares.now x.minima.now in
     let h = get_or x.heads.now x.id [] in
     let xs = get_or x.ids.now x.id [] in
@@ -327,7 +327,7 @@ calm_split-loop-j-preserved t c =
 pub calm_split-returns : goal.calm_split-returns
 calm_split-returns t c =
     let x = c.args in
-    let G = c.requires.1.0 in
+    let G = c.requires.0 in
     let ns = nodes_from x.heads.now x.ids.now x.shares.now x.minima.now in
     let h = get_or x.heads.now x.id [] in
     let xs = get_or x.ids.now x.id [] in

@@ -1,4 +1,4 @@
--- `calm::nodes::calm_node` is `calm`, and `calm_split` is `calm_split`: fuel falls from tile to tile. Assumes nothing.
+-- `calm::nodes::calm_node` is the rule `calm`, and `calm_split` the rule of its name: fuel falls from tile to tile. Assumes nothing.
 use mathlib.Core.List.{[]}
 use Prim.Native.Nat.{◌+◌, ◌-◌, ◌*◌, ◌≤◌}
 use lib.ListN.{get_or}

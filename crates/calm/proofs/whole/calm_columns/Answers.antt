@@ -1,4 +1,4 @@
--- `calm::whole::calm_columns` is `calm_end` of the walk from the root. Assumes nothing.
+-- `calm::whole::calm_columns` is the rule `calm_end` of the walk from the root. Assumes nothing.
 use borrow.Author.Tests.{not-true, not-false}
 use Rattle.columns.specs.Columns.{nodes_from}
 use Rattle.calm.proofs.NodeLaws.{end-early, end-told}

@@ -27,7 +27,7 @@ returns-then-is_wide c =
     let t = c.args.t in
     let r = rows_at bytes t in
     let n = t.row_count in
-    search-found wide_row r n at-loop.i pane_row at-loop.invariant at-loop-test.true (sym c.if-is_wide.true ∙ c.is_IsWide.ensures ∙ ap wide_row c.known_row.ensures)
+    search-found wide_row r n at-loop.i pane_row at-loop.invariant at-loop-test.true (sym c.if-is_wide.true ∙ c.is_wide.ensures ∙ ap wide_row c.known_row.ensures)
 
 pub overflow_add-i : goal.overflow_add-i
 overflow_add-i c =
@@ -47,7 +47,7 @@ loop-i-preserved c =
     let t = c.args.t in
     let r = rows_at bytes t in
     let n = t.row_count in
-    search-more wide_row r n at-loop.i pane_row at-loop.invariant at-loop-test.true (sym c.if-is_wide.false ∙ c.is_IsWide.ensures ∙ ap wide_row c.known_row.ensures)
+    search-more wide_row r n at-loop.i pane_row at-loop.invariant at-loop-test.true (sym c.if-is_wide.false ∙ c.is_wide.ensures ∙ ap wide_row c.known_row.ensures)
 
 pub returns : goal.returns
 returns c =

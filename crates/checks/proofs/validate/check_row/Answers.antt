@@ -55,17 +55,16 @@ returns-in-Pane c =
 
 pub returns-in-Tabs : goal.returns-in-Tabs
 returns-in-Tabs c =
-    let at_row = c.row-1 in
     let bytes = c.args.b.now in
     let t = c.args.t in
     let p = c.args.p in
     let s = c.args.s in
     let m = c.args.m in
-    let e = at_row.given.1 in
+    let e = c.in-Tabs.is in
     let rm = subst (λ (r : TableRow). Room t (row_is r) p s m) (e) c.requires.1 in
     let table = table_of bytes t in
     let to = ap (λ (r : TableRow). row_refusal (row_is r) (left_at table p s m) (take p (panes_at bytes t))) (sym (e)) in
-    c.check_tabs.ensures ∙ (λ j. tabs_refusal at_row.given.0.1.1.0 (loaded-part bytes t c.args.panes.now c.requires.2 p at_row.given.0.1.0 rm.panes j) (loaded-front bytes t c.args.panes.now c.requires.2 p at_row.given.0.1.0 rm.panes j)) ∙ to
+    c.check_tabs.ensures ∙ (λ j. tabs_refusal c.in-Tabs.active (loaded-part bytes t c.args.panes.now c.requires.2 p c.in-Tabs.count rm.panes j) (loaded-front bytes t c.args.panes.now c.requires.2 p c.in-Tabs.count rm.panes j)) ∙ to
 
 pub returns-in-Split : goal.returns-in-Split
 returns-in-Split c =

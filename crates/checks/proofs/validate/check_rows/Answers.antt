@@ -95,14 +95,13 @@ loop-i-preserved c =
     let at-loop-test = c.loop-i-test in
     let at-known-row = c.known_row-row in
     let at-check-row = c.check_row in
-    let at-enum-told = c.enum_told-1 in
     let at-panes-used = c.panes_used-p in
     let bytes = c.args.b.now in
     let t = c.args.t in
     let table = table_of bytes t in
     let row = row_is at-known-row.result in
     let len = length-entries bytes t.rows t.row_count row_from in
-    (along-more table at-loop.i at-loop.p at-loop.s at-loop.m row at-panes-used.result c.shares_used-s.result c.minima_used-m.result at-loop.invariant.0 (let q = len in omega (arith, at-loop-test.true)) at-known-row.ensures at-panes-used.ensures c.shares_used-s.ensures c.minima_used-m.ensures, checking-more table at-loop.i at-loop.p at-loop.s at-loop.m at-loop.invariant.1 (let q = len in omega (arith, at-loop-test.true)) row at-known-row.ensures at-panes-used.result c.shares_used-s.result c.minima_used-m.result at-panes-used.ensures c.shares_used-s.ensures c.minima_used-m.ensures (ap checked_as (sym at-enum-told.given.1) ∙ at-check-row.ensures))
+    (along-more table at-loop.i at-loop.p at-loop.s at-loop.m row at-panes-used.result c.shares_used-s.result c.minima_used-m.result at-loop.invariant.0 (let q = len in omega (arith, at-loop-test.true)) at-known-row.ensures at-panes-used.ensures c.shares_used-s.ensures c.minima_used-m.ensures, checking-more table at-loop.i at-loop.p at-loop.s at-loop.m at-loop.invariant.1 (let q = len in omega (arith, at-loop-test.true)) row at-known-row.ensures at-panes-used.result c.shares_used-s.result c.minima_used-m.result at-panes-used.ensures c.shares_used-s.ensures c.minima_used-m.ensures (ap checked_as (sym c.in_default.is) ∙ at-check-row.ensures))
 
 pub returns : goal.returns
 returns c =

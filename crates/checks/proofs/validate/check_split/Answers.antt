@@ -94,7 +94,6 @@ returns-in-At-bad_minimum c =
     let at-if1 = c.if-n-lt2 in
     let at-if2 = c.if-n-ns in
     let at-bad-share = c.bad_share in
-    let at-enum-told = c.enum_told-1 in
     let at-if3 = c.if-n-nm in
     let at-bad-minimum = c.bad_minimum in
     let n = c.args.n in
@@ -109,7 +108,7 @@ returns-in-At-bad_minimum c =
     let ms = take nm (drop m table.minima) in
     let a = part_length table.shares s ns (let l = length-entries bytes t.shares t.share_count real in omega (arith, c.requires.1)) in
     let b = part_length table.minima m nm (let l = length-entries bytes t.minima t.minimum_count real in omega (arith, c.requires.2)) in
-    let f = ap place_of (sym at-enum-told.given.1) ∙ at-bad-share.ensures in
+    let f = ap place_of (sym c.in_default.is) ∙ at-bad-share.ensures in
     split-minimum n ns nm ss ms a b at-if1.false at-if2.false f at-if3.false c.in-At-bad_minimum.index (ap place_of (sym c.in-At-bad_minimum.is) ∙ at-bad-minimum.ensures)
 
 pub returns : goal.returns
@@ -117,7 +116,6 @@ returns c =
     let at-if1 = c.if-n-lt2 in
     let at-if2 = c.if-n-ns in
     let at-bad-share = c.bad_share in
-    let at-enum-told = c.enum_told-1 in
     let at-if3 = c.if-n-nm in
     let n = c.args.n in
     let ns = c.args.ns in
@@ -131,5 +129,5 @@ returns c =
     let ms = take nm (drop m table.minima) in
     let a = part_length table.shares s ns (let l = length-entries bytes t.shares t.share_count real in omega (arith, c.requires.1)) in
     let b = part_length table.minima m nm (let l = length-entries bytes t.minima t.minimum_count real in omega (arith, c.requires.2)) in
-    let f = ap place_of (sym at-enum-told.given.1) ∙ at-bad-share.ensures in
+    let f = ap place_of (sym c.in_default.is) ∙ at-bad-share.ensures in
     split_good n ns nm ss ms a b at-if1.false at-if2.false f at-if3.false (ap place_of (sym c.in_default-bad_minimum.is) ∙ c.bad_minimum.ensures)

@@ -15,52 +15,45 @@ returns-in_default c =
 pub returns-then-t-gt64 : goal.returns-then-t-gt64
 returns-then-t-gt64 c =
     let bytes = c.args.b.now in
-    let at-t = c.t-1 in
-    let t = at-t.given.0.0 in
-    let w = subst (λ (r : Sections). TableIs bytes r) at-t.given.1 c.read_table.ensures in
+    let t = c.in-Four.t in
+    let w = subst (λ (r : Sections). TableIs bytes r) c.in-Four.is c.read_table.ensures in
     built-refused _ _ _ _ _ _ _ (draft-full bytes t w c.if-t-gt64.true)
 
 pub too_wide-requires : goal.too_wide-requires
 too_wide-requires c =
     let bytes = c.args.b.now in
-    let at-t = c.t-1 in
-    let t = at-t.given.0.0 in
-    let w = subst (λ (r : Sections). TableIs bytes r) at-t.given.1 c.read_table.ensures in
+    let t = c.in-Four.t in
+    let w = subst (λ (r : Sections). TableIs bytes r) c.in-Four.is c.read_table.ensures in
     w.placed
 
 pub returns-then-too_wide : goal.returns-then-too_wide
 returns-then-too_wide c =
     let bytes = c.args.b.now in
-    let at-t = c.t-1 in
-    let t = at-t.given.0.0 in
-    let w = subst (λ (r : Sections). TableIs bytes r) at-t.given.1 c.read_table.ensures in
+    let t = c.in-Four.t in
+    let w = subst (λ (r : Sections). TableIs bytes r) c.in-Four.is c.read_table.ensures in
     built-refused _ _ _ _ _ _ _ (draft-wide bytes t w c.if-t-gt64.false (sym c.if-too_wide.true ∙ c.too_wide.ensures))
 
 pub check_rows-requires : goal.check_rows-requires
 check_rows-requires c =
     let bytes = c.args.b.now in
-    let at-t = c.t-1 in
-    let t = at-t.given.0.0 in
-    let w = subst (λ (r : Sections). TableIs bytes r) at-t.given.1 c.read_table.ensures in
+    let t = c.in-Four.t in
+    let w = subst (λ (r : Sections). TableIs bytes r) c.in-Four.is c.read_table.ensures in
     let g = sym c.if-too_wide.false ∙ c.too_wide.ensures in
     (w.placed, w.used, panes-few bytes t w.used c.if-t-gt64.false (sym g))
 
 pub returns-in-Bad : goal.returns-in-Bad
 returns-in-Bad c =
     let bytes = c.args.b.now in
-    let at-t = c.t-1 in
-    let t = at-t.given.0.0 in
-    let w = subst (λ (r : Sections). TableIs bytes r) at-t.given.1 c.read_table.ensures in
+    let t = c.in-Four.t in
+    let w = subst (λ (r : Sections). TableIs bytes r) c.in-Four.is c.read_table.ensures in
     let g = sym c.if-too_wide.false ∙ c.too_wide.ensures in
-    let bad = c.e-1 in
-    built-refused _ _ _ _ _ _ _ (draft-refused bytes t w c.if-t-gt64.false g bad.given.0.0 (ap checked_as (sym bad.given.1) ∙ c.check_rows.ensures))
+    built-refused _ _ _ _ _ _ _ (draft-refused bytes t w c.if-t-gt64.false g c.in-Bad.e (ap checked_as (sym c.in-Bad.is) ∙ c.check_rows.ensures))
 
 pub built_into-requires : goal.built_into-requires
 built_into-requires c =
     let bytes = c.args.b.now in
-    let at-t = c.t-1 in
-    let t = at-t.given.0.0 in
-    let w = subst (λ (r : Sections). TableIs bytes r) at-t.given.1 c.read_table.ensures in
+    let t = c.in-Four.t in
+    let w = subst (λ (r : Sections). TableIs bytes r) c.in-Four.is c.read_table.ensures in
     let g = sym c.if-too_wide.false ∙ c.too_wide.ensures in
     let good = ap checked_as (sym c.in_default-check_rows.is) ∙ c.check_rows.ensures in
     (passed bytes t w c.if-t-gt64.false g good, c.requires)
@@ -68,9 +61,8 @@ built_into-requires c =
 pub returns : goal.returns
 returns c =
     let bytes = c.args.b.now in
-    let at-t = c.t-1 in
-    let t = at-t.given.0.0 in
-    let w = subst (λ (r : Sections). TableIs bytes r) at-t.given.1 c.read_table.ensures in
+    let t = c.in-Four.t in
+    let w = subst (λ (r : Sections). TableIs bytes r) c.in-Four.is c.read_table.ensures in
     let g = sym c.if-too_wide.false ∙ c.too_wide.ensures in
     let good = ap checked_as (sym c.in_default-check_rows.is) ∙ c.check_rows.ensures in
     built-accepted _ _ _ _ _ _ _ (draft-built bytes t w c.if-t-gt64.false g good) c.built_into.ensures

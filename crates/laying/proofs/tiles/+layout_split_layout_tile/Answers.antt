@@ -21,7 +21,7 @@ pub layout_split-axis_of-axis-requires : goal.layout_split-axis_of-axis-requires
 layout_split-axis_of-axis-requires t c = tt
 
 pub layout_split-split_lengths-lengths-requires : goal.layout_split-split_lengths-lengths-requires
-layout_split-split_lengths-lengths-requires t c = c.requires.1.0.slim c.args.id
+layout_split-split_lengths-lengths-requires t c = c.requires.0.slim c.args.id
 
 pub layout_split-along_start-at-requires : goal.layout_split-along_start-at-requires
 layout_split-along_start-at-requires t c = tt
@@ -30,10 +30,10 @@ pub layout_split-loop-j-init : goal.layout_split-loop-j-init
 layout_split-loop-j-init t c = (omega arith, refl)
 
 pub layout_split-offset_bounds-children-j : goal.layout_split-offset_bounds-children-j
-layout_split-offset_bounds-children-j t c = omega (arith, (c.requires.1.0.slim c.args.id).0)
+layout_split-offset_bounds-children-j t c = omega (arith, (c.requires.0.slim c.args.id).0)
 
 pub layout_split-bounds-children-j : goal.layout_split-bounds-children-j
-layout_split-bounds-children-j t c = omega (arith, (c.requires.1.0.slim c.args.id).0)
+layout_split-bounds-children-j t c = omega (arith, (c.requires.0.slim c.args.id).0)
 
 pub layout_split-get-length-requires : goal.layout_split-get-length-requires
 layout_split-get-length-requires t c = tt
@@ -46,19 +46,19 @@ layout_split-push_child-m-requires t c = tt
 
 pub layout_split-layout_tile-m-requires : goal.layout_split-layout_tile-m-requires
 layout_split-layout_tile-m-requires t c =
-    (omega (arith, c.requires.0), c.requires.1.0)
+    (omega (arith), c.requires.0)
 
 pub layout_split-along_rect-bar-requires : goal.layout_split-along_rect-bar-requires
 layout_split-along_rect-bar-requires t c = tt
 
 pub layout_split-overflow_add-j : goal.layout_split-overflow_add-j
-layout_split-overflow_add-j t c = omega (arith, (c.requires.1.0.slim c.args.id).0)
+layout_split-overflow_add-j t c = omega (arith, (c.requires.0.slim c.args.id).0)
 
 pub layout_split-handle_after-m-requires : goal.layout_split-handle_after-m-requires
 layout_split-handle_after-m-requires t c = tt
 
 pub layout_split-overflow_add-j-in-loop-j : goal.layout_split-overflow_add-j-in-loop-j
-layout_split-overflow_add-j-in-loop-j t c = omega (arith, (c.requires.1.0.slim c.args.id).0)
+layout_split-overflow_add-j-in-loop-j t c = omega (arith, (c.requires.0.slim c.args.id).0)
 
 pub layout_split-loop-j-preserved : goal.layout_split-loop-j-preserved
 unfolding of_bits
@@ -68,7 +68,7 @@ layout_split-loop-j-preserved t c =
     let again = layout_tile a.depth (nodes_from a.heads.now a.ids.now a.shares.now a.minima.now) a.input in
     let row = get_or a.ids.now a.id [] in
     let count = get_or (get_or a.heads.now a.id []) 4 0 in
-    let few : count ≤ length row = omega (arith, (c.requires.1.0.slim a.id).0, c.full.ensures) in
+    let few : count ≤ length row = omega (arith, (c.requires.0.slim a.id).0, c.full.ensures) in
     let ls = reals c.split_lengths-lengths.result in
     let handle = a.input.split_handle_thickness in
     let axis = c.axis_of-axis.result in (
@@ -89,7 +89,7 @@ layout_split-returns t c =
     let h = get_or a.heads.now a.id [] in
     let row = get_or a.ids.now a.id [] in
     let count = get_or h 4 0 in
-    let few : count ≤ length row = omega (arith, (c.requires.1.0.slim a.id).0, c.full.ensures) in
+    let few : count ≤ length row = omega (arith, (c.requires.0.slim a.id).0, c.full.ensures) in
     let ls = reals c.split_lengths-lengths.result in
     let handle = a.input.split_handle_thickness in
     let axis = c.axis_of-axis.result in
@@ -103,17 +103,17 @@ layout_split-returns t c =
 pub layout_tile-returns-then-depth-eq0 : goal.layout_tile-returns-then-depth-eq0
 layout_tile-returns-then-depth-eq0 t c =
     let a = c.args in
-    tile-zero a.heads.now a.ids.now a.shares.now a.minima.now c.requires.1 a.input a.id a.rect (stream a.items.now a.rects.now a.n) a.depth c.if-depth-eq0.true
+    tile-zero a.heads.now a.ids.now a.shares.now a.minima.now c.requires a.input a.id a.rect (stream a.items.now a.rects.now a.n) a.depth c.if-depth-eq0.true
 
 pub layout_tile-returns-then-id-ge64 : goal.layout_tile-returns-then-id-ge64
 layout_tile-returns-then-id-ge64 t c =
     let a = c.args in
-    tile-past a.heads.now a.ids.now a.shares.now a.minima.now c.requires.1 a.input a.id a.rect (stream a.items.now a.rects.now a.n) a.depth c.if-depth-eq0.false c.if-id-ge64.true
+    tile-past a.heads.now a.ids.now a.shares.now a.minima.now c.requires a.input a.id a.rect (stream a.items.now a.rects.now a.n) a.depth c.if-depth-eq0.false c.if-id-ge64.true
 
 pub layout_tile-returns-then-kind-eq0 : goal.layout_tile-returns-then-kind-eq0
 layout_tile-returns-then-kind-eq0 t c =
     let a = c.args in
-    tile-empty a.heads.now a.ids.now a.shares.now a.minima.now c.requires.1 a.input a.id a.rect (stream a.items.now a.rects.now a.n) a.depth c.if-depth-eq0.false c.if-kind-eq0.true
+    tile-empty a.heads.now a.ids.now a.shares.now a.minima.now c.requires a.input a.id a.rect (stream a.items.now a.rects.now a.n) a.depth c.if-depth-eq0.false c.if-kind-eq0.true
 
 pub layout_tile-layout_pane-requires : goal.layout_tile-layout_pane-requires
 layout_tile-layout_pane-requires t c = tt
@@ -121,25 +121,25 @@ layout_tile-layout_pane-requires t c = tt
 pub layout_tile-returns-then-kind-eq1 : goal.layout_tile-returns-then-kind-eq1
 layout_tile-returns-then-kind-eq1 t c =
     let a = c.args in
-    tile-pane a.heads.now a.ids.now a.shares.now a.minima.now c.requires.1 a.input a.id a.rect (stream a.items.now a.rects.now a.n) a.depth c.if-depth-eq0.false (stream c.layout_pane.new.items c.layout_pane.new.rects c.layout_pane.result) c.if-kind-eq1.true c.layout_pane.ensures
+    tile-pane a.heads.now a.ids.now a.shares.now a.minima.now c.requires a.input a.id a.rect (stream a.items.now a.rects.now a.n) a.depth c.if-depth-eq0.false (stream c.layout_pane.new.items c.layout_pane.new.rects c.layout_pane.result) c.if-kind-eq1.true c.layout_pane.ensures
 
 pub layout_tile-layout_tabs-requires : goal.layout_tile-layout_tabs-requires
-layout_tile-layout_tabs-requires t c = c.requires.1.slim c.args.id
+layout_tile-layout_tabs-requires t c = c.requires.slim c.args.id
 
 pub layout_tile-returns-then-kind-eq2 : goal.layout_tile-returns-then-kind-eq2
 layout_tile-returns-then-kind-eq2 t c =
     let a = c.args in
-    tile-tabs a.heads.now a.ids.now a.shares.now a.minima.now c.requires.1 a.input a.id a.rect (stream a.items.now a.rects.now a.n) a.depth c.if-depth-eq0.false (stream c.layout_tabs.new.items c.layout_tabs.new.rects c.layout_tabs.result) c.if-kind-eq2.true c.layout_tabs.ensures
+    tile-tabs a.heads.now a.ids.now a.shares.now a.minima.now c.requires a.input a.id a.rect (stream a.items.now a.rects.now a.n) a.depth c.if-depth-eq0.false (stream c.layout_tabs.new.items c.layout_tabs.new.rects c.layout_tabs.result) c.if-kind-eq2.true c.layout_tabs.ensures
 
 pub layout_tile-overflow_sub-depth : goal.layout_tile-overflow_sub-depth
 layout_tile-overflow_sub-depth t c = pos_of_ne-zero c.if-depth-eq0.false
 
 pub layout_tile-layout_split-requires : goal.layout_tile-layout_split-requires
 layout_tile-layout_split-requires t c =
-    (omega (arith, c.requires.0, pos_of_ne-zero c.if-depth-eq0.false), (c.requires.1, c.if-id-ge64.false))
+    (omega (arith, pos_of_ne-zero c.if-depth-eq0.false), (c.requires, c.if-id-ge64.false))
 
 pub layout_tile-returns : goal.layout_tile-returns
 layout_tile-returns t c =
     let a = c.args in
-    tile-split a.heads.now a.ids.now a.shares.now a.minima.now c.requires.1 a.input a.id a.rect (stream a.items.now a.rects.now a.n) a.depth c.if-depth-eq0.false
+    tile-split a.heads.now a.ids.now a.shares.now a.minima.now c.requires a.input a.id a.rect (stream a.items.now a.rects.now a.n) a.depth c.if-depth-eq0.false
     (stream c.layout_split.new.items c.layout_split.new.rects c.layout_split.result) c.if-kind-eq0.false c.if-kind-eq1.false c.if-kind-eq2.false c.layout_split.ensures

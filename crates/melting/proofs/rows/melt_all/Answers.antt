@@ -59,11 +59,10 @@ loop-j-preserved c =
     let h = c.loop-j-test.true in
     let l = c.loop-j in
     let p = c.push3 in
-    let s = p.new in
-    melting-more a.cs.now a.ss.now a.ms.now a.n (entries_of b) a.share l.cs l.ss l.ms l.j _ none s.0 s.1.0 s.1.1.0 l.invariant
+    melting-more a.cs.now a.ss.now a.ms.now a.n (entries_of b) a.share l.cs l.ss l.ms l.j _ none p.new.cs p.new.ss p.new.ms l.invariant
     (omega (arith, even-count b c.requires.1 g, h))
     (even-read b c.requires.1 g l.j 0 nan nan none h)
-    (grown-one l.cs l.ss l.ms (a.n + l.j) true true l.invariant.lent (omega (arith, h, c.requires.2)) _ _ _ s.0 s.1.0 s.1.1.0 p.ensures.0 p.ensures.1 p.ensures.2)
+    (grown-one l.cs l.ss l.ms (a.n + l.j) true true l.invariant.lent (omega (arith, h, c.requires.2)) _ _ _ p.new.cs p.new.ss p.new.ms p.ensures.0 p.ensures.1 p.ensures.2)
 
 pub returns : goal.returns
 returns c =

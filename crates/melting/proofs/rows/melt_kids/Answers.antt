@@ -12,6 +12,5 @@ pub returns : goal.returns
 returns c =
     let m = c.mended-sub in
     let a = c.args in
-    let l = c.melt_all.new in
     melt-fits a.cs.now a.ss.now a.ms.now a.t.len a.t.moved a.given m.result a.c a.share c.requires.0 m.ensures
-    l.0 l.1.0 l.1.1.0 c.melt_all.ensures
+    c.melt_all.new.cs c.melt_all.new.ss c.melt_all.new.ms c.melt_all.ensures

@@ -17,8 +17,7 @@ pub returns : goal.returns
 returns c =
     let a = c.args in
     let p = c.push3 in
-    let l = p.new in
     fits-grown (entry (tile a.id) a.share a.minimum ∷ []) a.t.moved (kids_in a.cs.now a.ss.now a.ms.now a.t.len a.t.moved) a.c
-    (kids_in l.0 l.1.0 l.1.1.0 _ a.t.moved)
+    (kids_in p.new.cs p.new.ss p.new.ms _ a.t.moved)
     (grown-one a.cs.now a.ss.now a.ms.now a.t.len a.t.moved a.t.moved c.requires c.if-n-ge16.false a.id a.share a.minimum
-    l.0 l.1.0 l.1.1.0 p.ensures.0 p.ensures.1 p.ensures.2) refl
+    p.new.cs p.new.ss p.new.ms p.ensures.0 p.ensures.1 p.ensures.2) refl

@@ -18,13 +18,13 @@ pub returns-in-At : goal.returns-in-At
 returns-in-At c =
     let x = c.args in
     let p = c.requires in
-    rows-holds x.heads.now x.ids.now p.0 p.1 c.loop-i.i (omega arith) x.target (place_of c.IsPlace-in.result) c.IsPlace-in.ensures _ (sym (ap place_of c.in-At.is)) c.loop-i.invariant.1
+    rows-holds x.heads.now x.ids.now p.0 p.1 c.loop-i.i (omega arith) x.target (place_of c.place_in-place.result) c.place_in-place.ensures _ (sym (ap place_of c.in-At.is)) c.loop-i.invariant.1
 
 pub loop-i-preserved : goal.loop-i-preserved
 loop-i-preserved c =
     let x = c.args in
     let p = c.requires in
-    (omega arith, rows-onward x.heads.now x.ids.now p.0 p.1 c.loop-i.i (omega arith) x.target (place_of c.IsPlace-in.result) c.IsPlace-in.ensures (sym (ap place_of c.in_default.is)) c.loop-i.invariant.1)
+    (omega arith, rows-onward x.heads.now x.ids.now p.0 p.1 c.loop-i.i (omega arith) x.target (place_of c.place_in-place.result) c.place_in-place.ensures (sym (ap place_of c.in_default.is)) c.loop-i.invariant.1)
 
 pub returns : goal.returns
 returns c =

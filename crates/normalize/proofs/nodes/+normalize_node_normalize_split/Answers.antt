@@ -16,7 +16,7 @@ use Rattle.normalize.proofs.nodes.+normalize_node_normalize_split.Goals as goal
 
 -- src/nodes.rt:89:9
 pub normalize_node-gone-requires : goal.normalize_node-gone-requires
-normalize_node-gone-requires t c = omega (arith, c.requires.1.1)
+normalize_node-gone-requires t c = omega (arith, c.requires.1)
 
 -- src/nodes.rt:89:9
 pub normalize_node-shape_of-acts-then-id-ge64 : goal.normalize_node-shape_of-acts-then-id-ge64
@@ -27,16 +27,16 @@ pub normalize_node-returns-then-id-ge64 : goal.normalize_node-returns-then-id-ge
 normalize_node-returns-then-id-ge64 t c =
     let x = c.args in
     dropped x.heads.now x.ids.now x.shares.now x.minima.now x.claimed.now x.seen.now x.acts.now x.c x.id
-    c.requires.1.0 c.requires.1.1 c.gone.new.acts c.gone.result.kept c.gone.result.counts c.gone.ensures
+    c.requires.0 c.requires.1 c.gone.new.acts c.gone.result.kept c.gone.result.counts c.gone.ensures
     (λ w W f. gone-out (tile x.id) w c.if-id-ge64.true f)
 
 -- src/nodes.rt:92:8
 pub normalize_node-bounds-claimed-i : goal.normalize_node-bounds-claimed-i
-normalize_node-bounds-claimed-i t c = omega (arith, c.requires.1.0.flags)
+normalize_node-bounds-claimed-i t c = omega (arith, c.requires.0.flags)
 
 -- src/nodes.rt:93:9
 pub normalize_node-gone-requires-then-claimed-i : goal.normalize_node-gone-requires-then-claimed-i
-normalize_node-gone-requires-then-claimed-i t c = omega (arith, c.requires.1.1)
+normalize_node-gone-requires-then-claimed-i t c = omega (arith, c.requires.1)
 
 -- src/nodes.rt:93:9
 pub normalize_node-shape_of-acts-then-claimed-i : goal.normalize_node-shape_of-acts-then-claimed-i
@@ -47,12 +47,12 @@ pub normalize_node-returns-then-claimed-i : goal.normalize_node-returns-then-cla
 normalize_node-returns-then-claimed-i t c =
     let x = c.args in
     dropped x.heads.now x.ids.now x.shares.now x.minima.now x.claimed.now x.seen.now x.acts.now x.c x.id
-    c.requires.1.0 c.requires.1.1 c.gone-then-claimed-i.new.acts c.gone-then-claimed-i.result.kept c.gone-then-claimed-i.result.counts c.gone-then-claimed-i.ensures
+    c.requires.0 c.requires.1 c.gone-then-claimed-i.new.acts c.gone-then-claimed-i.result.kept c.gone-then-claimed-i.result.counts c.gone-then-claimed-i.ensures
     (λ w W f. gone-claimed (tile x.id) w c.if-id-ge64.false (ap (λ (fs : List Bool). get_or fs x.id false) W.claimed ∙ c.if-claimed-i.true) f)
 
 -- src/nodes.rt:98:9
 pub normalize_node-gone-requires-then-kind-eq0 : goal.normalize_node-gone-requires-then-kind-eq0
-normalize_node-gone-requires-then-kind-eq0 t c = omega (arith, c.requires.1.1)
+normalize_node-gone-requires-then-kind-eq0 t c = omega (arith, c.requires.1)
 
 -- src/nodes.rt:98:9
 pub normalize_node-shape_of-acts-then-kind-eq0 : goal.normalize_node-shape_of-acts-then-kind-eq0
@@ -65,15 +65,15 @@ normalize_node-returns-then-kind-eq0 t c =
     let h = get_or x.heads.now x.id [] in
     let here = cols x.heads.now x.ids.now x.shares.now x.minima.now x.claimed.now x.seen.now x.acts.now x.c in
     dropped x.heads.now x.ids.now x.shares.now x.minima.now x.claimed.now x.seen.now x.acts.now x.c x.id
-    c.requires.1.0 c.requires.1.1 c.gone-then-kind-eq0.new.acts c.gone-then-kind-eq0.result.kept c.gone-then-kind-eq0.result.counts c.gone-then-kind-eq0.ensures
+    c.requires.0 c.requires.1 c.gone-then-kind-eq0.new.acts c.gone-then-kind-eq0.result.kept c.gone-then-kind-eq0.result.counts c.gone-then-kind-eq0.ensures
     (λ w W f. gone-empty (tile x.id) w c.if-id-ge64.false (ap (λ (fs : List Bool). get_or fs x.id false) W.claimed ∙ c.if-claimed-i.false)
-    (slot_is here c.requires.1.0 w W x.id ∙ ap (λ (i : ℕ). node_by i h (get_or x.ids.now x.id []) (get_or x.shares.now x.id []) (get_or x.minima.now x.id [])) c.if-kind-eq0.true) f)
+    (slot_is here c.requires.0 w W x.id ∙ ap (λ (i : ℕ). node_by i h (get_or x.ids.now x.id []) (get_or x.shares.now x.id []) (get_or x.minima.now x.id [])) c.if-kind-eq0.true) f)
 
 -- src/nodes.rt:101:9
 pub normalize_node-pane_step-requires : goal.normalize_node-pane_step-requires
 normalize_node-pane_step-requires t c =
-    let S = c.requires.1.0 in
-    (record { inside = c.if-id-ge64.false; heads = S.heads; flags = S.flags; unclaimed = c.if-claimed-i.false; panes = S.panes; listing = c.requires.1.1 }, c.if-kind-eq1.true)
+    let S = c.requires.0 in
+    (record { inside = c.if-id-ge64.false; heads = S.heads; flags = S.flags; unclaimed = c.if-claimed-i.false; panes = S.panes; listing = c.requires.1 }, c.if-kind-eq1.true)
 
 -- src/nodes.rt:101:9
 pub normalize_node-shape_of-acts-then-kind-eq1 : goal.normalize_node-shape_of-acts-then-kind-eq1
@@ -82,13 +82,13 @@ normalize_node-shape_of-acts-then-kind-eq1 t c = c.acts-then-kind-eq1-1.given
 -- src/nodes.rt:101:9
 pub normalize_node-returns-then-kind-eq1 : goal.normalize_node-returns-then-kind-eq1
 normalize_node-returns-then-kind-eq1 t c =
-    c.pane_step.ensures c.args.ids.now c.args.shares.now c.args.minima.now c.requires.1.0
+    c.pane_step.ensures c.args.ids.now c.args.shares.now c.args.minima.now c.requires.0
 
 -- src/nodes.rt:104:9
 pub normalize_node-group_step-requires : goal.normalize_node-group_step-requires
 normalize_node-group_step-requires t c =
-    let S = c.requires.1.0 in
-    (record { inside = c.if-id-ge64.false; heads = S.heads; flags = S.flags; unclaimed = c.if-claimed-i.false; panes = S.panes; listing = c.requires.1.1 }, S.ids, c.if-kind-eq2.true, (S.slim c.args.id).0)
+    let S = c.requires.0 in
+    (record { inside = c.if-id-ge64.false; heads = S.heads; flags = S.flags; unclaimed = c.if-claimed-i.false; panes = S.panes; listing = c.requires.1 }, S.ids, c.if-kind-eq2.true, (S.slim c.args.id).0)
 
 -- src/nodes.rt:104:9
 pub normalize_node-shape_of-acts-then-kind-eq2 : goal.normalize_node-shape_of-acts-then-kind-eq2
@@ -97,12 +97,12 @@ normalize_node-shape_of-acts-then-kind-eq2 t c = c.acts-then-kind-eq2-1.given
 -- src/nodes.rt:104:9
 pub normalize_node-returns-then-kind-eq2 : goal.normalize_node-returns-then-kind-eq2
 normalize_node-returns-then-kind-eq2 t c =
-    c.group_step.ensures c.args.shares.now c.args.minima.now c.requires.1.0
+    c.group_step.ensures c.args.shares.now c.args.minima.now c.requires.0
 
 -- src/nodes.rt:106:5
 pub normalize_node-normalize_split-requires : goal.normalize_node-normalize_split-requires
 normalize_node-normalize_split-requires t c =
-    (omega (arith, c.requires.0), (c.requires.1.0, c.requires.1.1, c.if-id-ge64.false, c.if-claimed-i.false, c.if-kind-eq0.false, c.if-kind-eq1.false, c.if-kind-eq2.false))
+    (omega (arith), (c.requires.0, c.requires.1, c.if-id-ge64.false, c.if-claimed-i.false, c.if-kind-eq0.false, c.if-kind-eq1.false, c.if-kind-eq2.false))
 
 -- src/nodes.rt:74:1
 pub normalize_node-shape_of-acts : goal.normalize_node-shape_of-acts
@@ -115,13 +115,13 @@ normalize_node-returns t c = c.normalize_split.ensures
 -- src/nodes.rt:124:9
 pub normalize_split-open_split-o-requires : goal.normalize_split-open_split-o-requires
 normalize_split-open_split-o-requires t c =
-    let p = c.requires.1 in
+    let p = c.requires in
     (p.2, p.0.heads, p.0.ids, p.0.shares, p.0.minima, p.0.flags, p.0.slim c.args.id, p.3, p.1, p.4, p.5, p.6)
 
 -- src/nodes.rt:127:5
 pub normalize_split-measured-requires : goal.normalize_split-measured-requires
 normalize_split-measured-requires t c =
-    (c.open_split-o.ensures c.args.seen.now c.requires.1.0).even
+    (c.open_split-o.ensures c.args.seen.now c.requires.0).even
 
 -- src/nodes.rt:142:5
 pub normalize_split-loop-j-init : goal.normalize_split-loop-j-init
@@ -131,7 +131,7 @@ normalize_split-loop-j-init t c = (λ C₀ X. start X _ _ _, refl, record { chil
 pub normalize_split-offset_bounds-children-j : goal.normalize_split-offset_bounds-children-j
 normalize_split-offset_bounds-children-j t c =
     let x = c.args in
-    let p = c.requires.1 in
+    let p = c.requires in
     let C₀ = cols x.heads.now x.ids.now x.shares.now x.minima.now x.claimed.now x.seen.now x.acts.now x.c in
     let X = context p.0 p.1 p.2 p.3 (c.open_split-o.ensures x.seen.now p.0) c.measured.ensures in
     omega (arith, X.opens.even.few, c.loop-j-test.true)
@@ -140,7 +140,7 @@ normalize_split-offset_bounds-children-j t c =
 pub normalize_split-bounds-children-j : goal.normalize_split-bounds-children-j
 normalize_split-bounds-children-j t c =
     let x = c.args in
-    let p = c.requires.1 in
+    let p = c.requires in
     let C₀ = cols x.heads.now x.ids.now x.shares.now x.minima.now x.claimed.now x.seen.now x.acts.now x.c in
     let X = context p.0 p.1 p.2 p.3 (c.open_split-o.ensures x.seen.now p.0) c.measured.ensures in
     omega (arith, X.opens.even.few, c.loop-j-test.true)
@@ -149,11 +149,11 @@ normalize_split-bounds-children-j t c =
 pub normalize_split-normalize_node-w-requires : goal.normalize_split-normalize_node-w-requires
 normalize_split-normalize_node-w-requires t c =
     let x = c.args in
-    let p = c.requires.1 in
+    let p = c.requires in
     let C₀ = cols x.heads.now x.ids.now x.shares.now x.minima.now x.claimed.now x.seen.now x.acts.now x.c in
     let X = context p.0 p.1 p.2 p.3 (c.open_split-o.ensures x.seen.now p.0) c.measured.ensures in
     let G = c.loop-j.invariant.0 C₀ X in
-    (omega (arith, c.requires.0, falls-by X G), (G.sized, omega (arith, room_for X G c.loop-j-test.true)))
+    (omega (arith, falls-by X G), (G.sized, omega (arith, room_for X G c.loop-j-test.true)))
 
 -- src/nodes.rt:158:13
 pub normalize_split-shape_of-acts-then-is_wide : goal.normalize_split-shape_of-acts-then-is_wide
@@ -164,19 +164,19 @@ normalize_split-shape_of-acts-then-is_wide t c =
 pub normalize_split-returns-then-is_wide : goal.normalize_split-returns-then-is_wide
 normalize_split-returns-then-is_wide t c =
     let x = c.args in
-    let p = c.requires.1 in
+    let p = c.requires in
     let C₀ = cols x.heads.now x.ids.now x.shares.now x.minima.now x.claimed.now x.seen.now x.acts.now x.c in
     let X = context p.0 p.1 p.2 p.3 (c.open_split-o.ensures x.seen.now p.0) c.measured.ensures in
     let G = c.loop-j.invariant.0 C₀ X in
     let r = c.normalize_node-w in
     let E₁ = cols r.new.heads r.new.ids r.new.shares r.new.minima r.new.claimed r.new.seen r.new.acts r.result.counts in
-    too_wide X G c.loop-j-test.true (get_or c.open_split-o.result.rows.children.at c.loop-j.j 0) (child-read X c.loop-j.j c.loop-j-test.true) E₁ r.result.kept r.ensures (sym c.is_IsWide.ensures ∙ c.if-is_wide.true)
+    too_wide X G c.loop-j-test.true (get_or c.open_split-o.result.rows.children.at c.loop-j.j 0) (child-read X c.loop-j.j c.loop-j-test.true) E₁ r.result.kept r.ensures (sym c.is_wide.ensures ∙ c.if-is_wide.true)
 
 -- src/nodes.rt:163:21
 pub normalize_split-offset_bounds-olds-j : goal.normalize_split-offset_bounds-olds-j
 normalize_split-offset_bounds-olds-j t c =
     let x = c.args in
-    let p = c.requires.1 in
+    let p = c.requires in
     let C₀ = cols x.heads.now x.ids.now x.shares.now x.minima.now x.claimed.now x.seen.now x.acts.now x.c in
     let X = context p.0 p.1 p.2 p.3 (c.open_split-o.ensures x.seen.now p.0) c.measured.ensures in
     omega (arith, X.opens.even.few, c.loop-j-test.true)
@@ -185,7 +185,7 @@ normalize_split-offset_bounds-olds-j t c =
 pub normalize_split-bounds-olds-j : goal.normalize_split-bounds-olds-j
 normalize_split-bounds-olds-j t c =
     let x = c.args in
-    let p = c.requires.1 in
+    let p = c.requires in
     let C₀ = cols x.heads.now x.ids.now x.shares.now x.minima.now x.claimed.now x.seen.now x.acts.now x.c in
     let X = context p.0 p.1 p.2 p.3 (c.open_split-o.ensures x.seen.now p.0) c.measured.ensures in
     omega (arith, X.opens.even.few, c.loop-j-test.true)
@@ -194,7 +194,7 @@ normalize_split-bounds-olds-j t c =
 pub normalize_split-offset_bounds-least-j : goal.normalize_split-offset_bounds-least-j
 normalize_split-offset_bounds-least-j t c =
     let x = c.args in
-    let p = c.requires.1 in
+    let p = c.requires in
     let C₀ = cols x.heads.now x.ids.now x.shares.now x.minima.now x.claimed.now x.seen.now x.acts.now x.c in
     let X = context p.0 p.1 p.2 p.3 (c.open_split-o.ensures x.seen.now p.0) c.measured.ensures in
     omega (arith, X.opens.even.few, c.loop-j-test.true)
@@ -203,7 +203,7 @@ normalize_split-offset_bounds-least-j t c =
 pub normalize_split-bounds-least-j : goal.normalize_split-bounds-least-j
 normalize_split-bounds-least-j t c =
     let x = c.args in
-    let p = c.requires.1 in
+    let p = c.requires in
     let C₀ = cols x.heads.now x.ids.now x.shares.now x.minima.now x.claimed.now x.seen.now x.acts.now x.c in
     let X = context p.0 p.1 p.2 p.3 (c.open_split-o.ensures x.seen.now p.0) c.measured.ensures in
     omega (arith, X.opens.even.few, c.loop-j-test.true)
@@ -212,13 +212,13 @@ normalize_split-bounds-least-j t c =
 pub normalize_split-place-p-requires : goal.normalize_split-place-p-requires
 normalize_split-place-p-requires t c =
     let x = c.args in
-    let p = c.requires.1 in
+    let p = c.requires in
     let C₀ = cols x.heads.now x.ids.now x.shares.now x.minima.now x.claimed.now x.seen.now x.acts.now x.c in
     let X = context p.0 p.1 p.2 p.3 (c.open_split-o.ensures x.seen.now p.0) c.measured.ensures in
     let G = c.loop-j.invariant.0 C₀ X in
     let r = c.normalize_node-w in
     let lt = c.loop-j-test.true in
-    let narrow = sym c.is_IsWide.ensures ∙ c.if-is_wide.false in
+    let narrow = sym c.is_wide.ensures ∙ c.if-is_wide.false in
     let E₁ = cols r.new.heads r.new.ids r.new.shares r.new.minima r.new.claimed r.new.seen r.new.acts r.result.counts in
     let Z = r.ensures.sized in
     (Z.heads, Z.ids, Z.shares, Z.minima, Z.slim, record { even = G.even; long = c.loop-j.invariant.2 }, omega (arith, Z.listing), not_wide r.result.kept narrow)
@@ -232,13 +232,13 @@ normalize_split-shape_of-acts-then-p t c =
 pub normalize_split-returns-then-p : goal.normalize_split-returns-then-p
 normalize_split-returns-then-p t c =
     let x = c.args in
-    let p = c.requires.1 in
+    let p = c.requires in
     let C₀ = cols x.heads.now x.ids.now x.shares.now x.minima.now x.claimed.now x.seen.now x.acts.now x.c in
     let X = context p.0 p.1 p.2 p.3 (c.open_split-o.ensures x.seen.now p.0) c.measured.ensures in
     let G = c.loop-j.invariant.0 C₀ X in
     let r = c.normalize_node-w in
     let lt = c.loop-j-test.true in
-    let narrow = sym c.is_IsWide.ensures ∙ c.if-is_wide.false in
+    let narrow = sym c.is_wide.ensures ∙ c.if-is_wide.false in
     let E₁ = cols r.new.heads r.new.ids r.new.shares r.new.minima r.new.claimed r.new.seen r.new.acts r.result.counts in
     let q = c.place-p in
     let o = c.open_split-o.result in
@@ -252,7 +252,7 @@ normalize_split-returns-then-p t c =
 pub normalize_split-overflow_add-j : goal.normalize_split-overflow_add-j
 normalize_split-overflow_add-j t c =
     let x = c.args in
-    let p = c.requires.1 in
+    let p = c.requires in
     let C₀ = cols x.heads.now x.ids.now x.shares.now x.minima.now x.claimed.now x.seen.now x.acts.now x.c in
     let X = context p.0 p.1 p.2 p.3 (c.open_split-o.ensures x.seen.now p.0) c.measured.ensures in
     let G = c.loop-j.invariant.0 C₀ X in
@@ -269,7 +269,7 @@ normalize_split-loop-j-preserved t c = (
       let G = c.loop-j.invariant.0 C₀ X in
       let r = c.normalize_node-w in
       let lt = c.loop-j-test.true in
-      let narrow = sym c.is_IsWide.ensures ∙ c.if-is_wide.false in
+      let narrow = sym c.is_wide.ensures ∙ c.if-is_wide.false in
       let E₁ = cols r.new.heads r.new.ids r.new.shares r.new.minima r.new.claimed r.new.seen r.new.acts r.result.counts in
       let q = c.place-p in
       let o = c.open_split-o.result in
@@ -286,7 +286,7 @@ normalize_split-loop-j-preserved t c = (
 pub normalize_split-split_done-requires : goal.normalize_split-split_done-requires
 normalize_split-split_done-requires t c =
     let x = c.args in
-    let p = c.requires.1 in
+    let p = c.requires in
     let C₀ = cols x.heads.now x.ids.now x.shares.now x.minima.now x.claimed.now x.seen.now x.acts.now x.c in
     let X = context p.0 p.1 p.2 p.3 (c.open_split-o.ensures x.seen.now p.0) c.measured.ensures in
     let G = c.loop-j.invariant.0 C₀ X in
@@ -302,7 +302,7 @@ normalize_split-shape_of-acts t c =
 pub normalize_split-returns : goal.normalize_split-returns
 normalize_split-returns t c =
     let x = c.args in
-    let p = c.requires.1 in
+    let p = c.requires in
     let C₀ = cols x.heads.now x.ids.now x.shares.now x.minima.now x.claimed.now x.seen.now x.acts.now x.c in
     let X = context p.0 p.1 p.2 p.3 (c.open_split-o.ensures x.seen.now p.0) c.measured.ensures in
     let G = c.loop-j.invariant.0 C₀ X in

@@ -24,8 +24,7 @@ plant-requires c =
 pub returns-in-At : goal.returns-in-At
 returns-in-At c =
     let x = c.args in
-    let k = c.kept-1 in
-    ends-kept x.root x.heads.now x.ids.now x.shares.now x.minima.now c.requires.0 _ _ _ c.normalize_node-w.result.kept c.normalize_node-w.ensures x.spare _ _ c.finish.result k.given.0.0 k.given.1 c.finish.ensures
+    ends-kept x.root x.heads.now x.ids.now x.shares.now x.minima.now c.requires.0 _ _ _ c.normalize_node-w.result.kept c.normalize_node-w.ensures x.spare _ _ c.finish.result c.in-At.top c.in-At.is c.finish.ensures
 
 pub returns-in-Gone : goal.returns-in-Gone
 returns-in-Gone c =

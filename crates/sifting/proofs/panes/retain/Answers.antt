@@ -16,7 +16,7 @@ loop-j-init c =
 pub keep_pane-next-requires : goal.keep_pane-next-requires
 keep_pane-next-requires c = (
   omega (arith, c.loop-j.invariant.0.short, c.loop-j-test.true, c.requires.0),
-  omega (arith, c.loop-j.invariant.0.Seen-most, c.loop-j-test.true, c.requires.0, c.requires.1),
+  omega (arith, c.loop-j.invariant.0.seen_most, c.loop-j-test.true, c.requires.0, c.requires.1),
   omega (arith, c.loop-j.invariant.0.acts-most, c.loop-j-test.true, c.requires.0, c.requires.2),
 )
 

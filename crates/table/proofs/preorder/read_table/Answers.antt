@@ -20,17 +20,15 @@ rows_fit-requires c =
 pub returns-then-rows_fit : goal.returns-then-rows_fit
 returns-then-rows_fit c =
     let at-find-sections = c.find_sections in
-    let at-t = c.t-1 in
     let bytes = c.args.b.now in
-    let t = at-t.given.0.0 in
-    let w = subst (λ (r : Sections). SectionsAre bytes r) at-t.given.1 at-find-sections.ensures in
+    let t = c.in-Four.t in
+    let w = subst (λ (r : Sections). SectionsAre bytes r) c.in-Four.is at-find-sections.ensures in
     table-good bytes t w (sym c.if-rows_fit.true ∙ c.rows_fit.ensures)
 
 pub returns : goal.returns
 returns c =
     let at-find-sections = c.find_sections in
-    let at-t = c.t-1 in
     let bytes = c.args.b.now in
-    let t = at-t.given.0.0 in
-    let w = subst (λ (r : Sections). SectionsAre bytes r) at-t.given.1 at-find-sections.ensures in
+    let t = c.in-Four.t in
+    let w = subst (λ (r : Sections). SectionsAre bytes r) c.in-Four.is at-find-sections.ensures in
     table-bad bytes t w (sym c.if-rows_fit.false ∙ c.rows_fit.ensures)

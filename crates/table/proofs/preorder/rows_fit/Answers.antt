@@ -61,10 +61,9 @@ overflow_add-panes c =
     let at-loop = c.loop-i in
     let at-loop-test = c.loop-i-test in
     let at-row-at = c.row_at in
-    let at_row = c.row-1 in
     let bytes = c.args.b.now in
     let t = c.args.t in
-    let rd = subst (λ (r : RowRead). ReadAt bytes (t.rows + 8 * at-loop.i) r) at_row.given.1 at-row-at.ensures in
+    let rd = subst (λ (r : RowRead). ReadAt bytes (t.rows + 8 * at-loop.i) r) c.in-Row.is at-row-at.ensures in
     omega (arith, c.requires.rows.few, c.requires.rows.inside, at-loop-test.true, c.panes_used-panes.ensures, rd.small.panes, at-loop.invariant.panes-few)
 
 pub overflow_add-shares : goal.overflow_add-shares
@@ -72,10 +71,9 @@ overflow_add-shares c =
     let at-loop = c.loop-i in
     let at-loop-test = c.loop-i-test in
     let at-row-at = c.row_at in
-    let at_row = c.row-1 in
     let bytes = c.args.b.now in
     let t = c.args.t in
-    let rd = subst (λ (r : RowRead). ReadAt bytes (t.rows + 8 * at-loop.i) r) at_row.given.1 at-row-at.ensures in
+    let rd = subst (λ (r : RowRead). ReadAt bytes (t.rows + 8 * at-loop.i) r) c.in-Row.is at-row-at.ensures in
     omega (arith, c.requires.rows.few, c.requires.rows.inside, at-loop-test.true, c.shares_used-shares.ensures, rd.small.shares, at-loop.invariant.shares-few)
 
 pub overflow_add-minima : goal.overflow_add-minima
@@ -83,10 +81,9 @@ overflow_add-minima c =
     let at-loop = c.loop-i in
     let at-loop-test = c.loop-i-test in
     let at-row-at = c.row_at in
-    let at_row = c.row-1 in
     let bytes = c.args.b.now in
     let t = c.args.t in
-    let rd = subst (λ (r : RowRead). ReadAt bytes (t.rows + 8 * at-loop.i) r) at_row.given.1 at-row-at.ensures in
+    let rd = subst (λ (r : RowRead). ReadAt bytes (t.rows + 8 * at-loop.i) r) c.in-Row.is at-row-at.ensures in
     omega (arith, c.requires.rows.few, c.requires.rows.inside, at-loop-test.true, c.minima_used-minima.ensures, rd.small.minima, at-loop.invariant.minima-few)
 
 pub overflow_add-i : goal.overflow_add-i
@@ -105,13 +102,12 @@ loop-i-preserved c =
     let at-loop-test = c.loop-i-test in
     let at-if1 = c.if-due-eq0 in
     let at-row-at = c.row_at in
-    let at_row = c.row-1 in
     let at-children-used = c.children_used in
     let at-panes-used = c.panes_used-panes in
     let bytes = c.args.b.now in
     let t = c.args.t in
-    let row = at_row.given.0.0 in
-    let rd = subst (λ (r : RowRead). ReadAt bytes (t.rows + 8 * at-loop.i) r) at_row.given.1 at-row-at.ensures in
+    let row = c.in-Row.row in
+    let rd = subst (λ (r : RowRead). ReadAt bytes (t.rows + 8 * at-loop.i) r) c.in-Row.is at-row-at.ensures in
     going_more bytes t at-loop.i at-loop.due at-loop.panes at-loop.shares at-loop.minima at-loop.invariant at-loop-test.true row at-children-used.result at-panes-used.result c.shares_used-shares.result c.minima_used-minima.result rd at-if1.false at-children-used.ensures at-panes-used.ensures c.shares_used-shares.ensures c.minima_used-minima.ensures
 
 pub returns : goal.returns

@@ -30,33 +30,30 @@ overflow_add-rows c =
 pub returns-in_default-section_at : goal.returns-in_default-section_at
 returns-in_default-section_at c =
     let at-section-at = c.section_at in
-    let at_rows = c.rows-1 in
     let bytes = c.args.b.now in
-    let p1 = at_rows.given.0.0 in
-    let n1 = at_rows.given.0.1.0 in
-    let k1 = subst (λ (f : Found). SectionAt bytes 0 f) at_rows.given.1 at-section-at.ensures in
+    let p1 = c.in-At.rows in
+    let n1 = c.in-At.row_count in
+    let k1 = subst (λ (f : Found). SectionAt bytes 0 f) c.in-At.is at-section-at.ensures in
     let q2 = p1 + 8 * n1 in
     let no2 = (subst (λ (f : Found). SectionAt bytes q2 f) c.in_default-section_at.is c.section_at-2.ensures).is in
     bad-panes bytes p1 n1 k1.is no2
 
 pub overflow_mul-pane_count : goal.overflow_mul-pane_count
 overflow_mul-pane_count c =
-    let at_rows = c.rows-1 in
     let at-section-at2 = c.section_at-2 in
     let bytes = c.args.b.now in
-    let p1 = at_rows.given.0.0 in
-    let n1 = at_rows.given.0.1.0 in
+    let p1 = c.in-At.rows in
+    let n1 = c.in-At.row_count in
     let q2 = p1 + 8 * n1 in
     let k2 = subst (λ (f : Found). SectionAt bytes q2 f) c.in-At-section_at.is at-section-at2.ensures in
     omega (arith, k2.here.few)
 
 pub overflow_add-panes : goal.overflow_add-panes
 overflow_add-panes c =
-    let at_rows = c.rows-1 in
     let at-section-at2 = c.section_at-2 in
     let bytes = c.args.b.now in
-    let p1 = at_rows.given.0.0 in
-    let n1 = at_rows.given.0.1.0 in
+    let p1 = c.in-At.rows in
+    let n1 = c.in-At.row_count in
     let q2 = p1 + 8 * n1 in
     let k2 = subst (λ (f : Found). SectionAt bytes q2 f) c.in-At-section_at.is at-section-at2.ensures in
     omega (arith, k2.here.inside)
@@ -64,39 +61,35 @@ overflow_add-panes c =
 pub returns-in_default-section_at-2 : goal.returns-in_default-section_at-2
 returns-in_default-section_at-2 c =
     let at-section-at = c.section_at in
-    let at_rows = c.rows-1 in
     let at-section-at2 = c.section_at-2 in
-    let at-panes = c.panes-1 in
     let bytes = c.args.b.now in
-    let p1 = at_rows.given.0.0 in
-    let n1 = at_rows.given.0.1.0 in
-    let k1 = subst (λ (f : Found). SectionAt bytes 0 f) at_rows.given.1 at-section-at.ensures in
-    let p2 = at-panes.given.0.0 in
-    let n2 = at-panes.given.0.1.0 in
+    let p1 = c.in-At.rows in
+    let n1 = c.in-At.row_count in
+    let k1 = subst (λ (f : Found). SectionAt bytes 0 f) c.in-At.is at-section-at.ensures in
+    let p2 = c.in-At-section_at.panes in
+    let n2 = c.in-At-section_at.pane_count in
     let q2 = p1 + 8 * n1 in
-    let k2 = subst (λ (f : Found). SectionAt bytes q2 f) at-panes.given.1 at-section-at2.ensures in
+    let k2 = subst (λ (f : Found). SectionAt bytes q2 f) c.in-At-section_at.is at-section-at2.ensures in
     let q3 = p2 + 8 * n2 in
     let no3 = (subst (λ (f : Found). SectionAt bytes q3 f) c.in_default-section_at-2.is c.section_at-3.ensures).is in
     bad-shares bytes p1 n1 k1.is p2 n2 k2.is no3
 
 pub overflow_mul-share_count : goal.overflow_mul-share_count
 overflow_mul-share_count c =
-    let at-panes = c.panes-1 in
     let at-section-at3 = c.section_at-3 in
     let bytes = c.args.b.now in
-    let p2 = at-panes.given.0.0 in
-    let n2 = at-panes.given.0.1.0 in
+    let p2 = c.in-At-section_at.panes in
+    let n2 = c.in-At-section_at.pane_count in
     let q3 = p2 + 8 * n2 in
     let k3 = subst (λ (f : Found). SectionAt bytes q3 f) c.in-At-section_at-2.is at-section-at3.ensures in
     omega (arith, k3.here.few)
 
 pub overflow_add-shares : goal.overflow_add-shares
 overflow_add-shares c =
-    let at-panes = c.panes-1 in
     let at-section-at3 = c.section_at-3 in
     let bytes = c.args.b.now in
-    let p2 = at-panes.given.0.0 in
-    let n2 = at-panes.given.0.1.0 in
+    let p2 = c.in-At-section_at.panes in
+    let n2 = c.in-At-section_at.pane_count in
     let q3 = p2 + 8 * n2 in
     let k3 = subst (λ (f : Found). SectionAt bytes q3 f) c.in-At-section_at-2.is at-section-at3.ensures in
     omega (arith, k3.here.inside)
@@ -104,45 +97,40 @@ overflow_add-shares c =
 pub returns-in_default-section_at-3 : goal.returns-in_default-section_at-3
 returns-in_default-section_at-3 c =
     let at-section-at = c.section_at in
-    let at_rows = c.rows-1 in
     let at-section-at2 = c.section_at-2 in
-    let at-panes = c.panes-1 in
     let at-section-at3 = c.section_at-3 in
-    let at-shares = c.shares-1 in
     let bytes = c.args.b.now in
-    let p1 = at_rows.given.0.0 in
-    let n1 = at_rows.given.0.1.0 in
-    let k1 = subst (λ (f : Found). SectionAt bytes 0 f) at_rows.given.1 at-section-at.ensures in
-    let p2 = at-panes.given.0.0 in
-    let n2 = at-panes.given.0.1.0 in
+    let p1 = c.in-At.rows in
+    let n1 = c.in-At.row_count in
+    let k1 = subst (λ (f : Found). SectionAt bytes 0 f) c.in-At.is at-section-at.ensures in
+    let p2 = c.in-At-section_at.panes in
+    let n2 = c.in-At-section_at.pane_count in
     let q2 = p1 + 8 * n1 in
-    let k2 = subst (λ (f : Found). SectionAt bytes q2 f) at-panes.given.1 at-section-at2.ensures in
-    let p3 = at-shares.given.0.0 in
-    let n3 = at-shares.given.0.1.0 in
+    let k2 = subst (λ (f : Found). SectionAt bytes q2 f) c.in-At-section_at.is at-section-at2.ensures in
+    let p3 = c.in-At-section_at-2.shares in
+    let n3 = c.in-At-section_at-2.share_count in
     let q3 = p2 + 8 * n2 in
-    let k3 = subst (λ (f : Found). SectionAt bytes q3 f) at-shares.given.1 at-section-at3.ensures in
+    let k3 = subst (λ (f : Found). SectionAt bytes q3 f) c.in-At-section_at-2.is at-section-at3.ensures in
     let q4 = p3 + 8 * n3 in
     let no4 = (subst (λ (f : Found). SectionAt bytes q4 f) c.in_default-section_at-3.is c.section_at-4.ensures).is in
     bad-minima bytes p1 n1 k1.is p2 n2 k2.is p3 n3 k3.is no4
 
 pub overflow_mul-end : goal.overflow_mul-end
 overflow_mul-end c =
-    let at-shares = c.shares-1 in
     let at-section-at4 = c.section_at-4 in
     let bytes = c.args.b.now in
-    let p3 = at-shares.given.0.0 in
-    let n3 = at-shares.given.0.1.0 in
+    let p3 = c.in-At-section_at-2.shares in
+    let n3 = c.in-At-section_at-2.share_count in
     let q4 = p3 + 8 * n3 in
     let k4 = subst (λ (f : Found). SectionAt bytes q4 f) c.in-At-section_at-3.is at-section-at4.ensures in
     omega (arith, k4.here.few)
 
 pub overflow_add-end : goal.overflow_add-end
 overflow_add-end c =
-    let at-shares = c.shares-1 in
     let at-section-at4 = c.section_at-4 in
     let bytes = c.args.b.now in
-    let p3 = at-shares.given.0.0 in
-    let n3 = at-shares.given.0.1.0 in
+    let p3 = c.in-At-section_at-2.shares in
+    let n3 = c.in-At-section_at-2.share_count in
     let q4 = p3 + 8 * n3 in
     let k4 = subst (λ (f : Found). SectionAt bytes q4 f) c.in-At-section_at-3.is at-section-at4.ensures in
     omega (arith, k4.here.inside)
@@ -150,55 +138,47 @@ overflow_add-end c =
 pub returns-then-end-b : goal.returns-then-end-b
 returns-then-end-b c =
     let at-section-at = c.section_at in
-    let at_rows = c.rows-1 in
     let at-section-at2 = c.section_at-2 in
-    let at-panes = c.panes-1 in
     let at-section-at3 = c.section_at-3 in
-    let at-shares = c.shares-1 in
     let at-section-at4 = c.section_at-4 in
-    let at-minima = c.minima-1 in
     let bytes = c.args.b.now in
-    let p1 = at_rows.given.0.0 in
-    let n1 = at_rows.given.0.1.0 in
-    let k1 = subst (λ (f : Found). SectionAt bytes 0 f) at_rows.given.1 at-section-at.ensures in
-    let p2 = at-panes.given.0.0 in
-    let n2 = at-panes.given.0.1.0 in
+    let p1 = c.in-At.rows in
+    let n1 = c.in-At.row_count in
+    let k1 = subst (λ (f : Found). SectionAt bytes 0 f) c.in-At.is at-section-at.ensures in
+    let p2 = c.in-At-section_at.panes in
+    let n2 = c.in-At-section_at.pane_count in
     let q2 = p1 + 8 * n1 in
-    let k2 = subst (λ (f : Found). SectionAt bytes q2 f) at-panes.given.1 at-section-at2.ensures in
-    let p3 = at-shares.given.0.0 in
-    let n3 = at-shares.given.0.1.0 in
+    let k2 = subst (λ (f : Found). SectionAt bytes q2 f) c.in-At-section_at.is at-section-at2.ensures in
+    let p3 = c.in-At-section_at-2.shares in
+    let n3 = c.in-At-section_at-2.share_count in
     let q3 = p2 + 8 * n2 in
-    let k3 = subst (λ (f : Found). SectionAt bytes q3 f) at-shares.given.1 at-section-at3.ensures in
-    let p4 = at-minima.given.0.0 in
-    let n4 = at-minima.given.0.1.0 in
+    let k3 = subst (λ (f : Found). SectionAt bytes q3 f) c.in-At-section_at-2.is at-section-at3.ensures in
+    let p4 = c.in-At-section_at-3.minima in
+    let n4 = c.in-At-section_at-3.minimum_count in
     let q4 = p3 + 8 * n3 in
-    let k4 = subst (λ (f : Found). SectionAt bytes q4 f) at-minima.given.1 at-section-at4.ensures in
+    let k4 = subst (λ (f : Found). SectionAt bytes q4 f) c.in-At-section_at-3.is at-section-at4.ensures in
     trailing bytes p1 n1 k1.is p2 n2 k2.is p3 n3 k3.is p4 n4 k4.is k4.here.inside c.if-end-b.true
 
 pub returns : goal.returns
 returns c =
     let at-section-at = c.section_at in
-    let at_rows = c.rows-1 in
     let at-section-at2 = c.section_at-2 in
-    let at-panes = c.panes-1 in
     let at-section-at3 = c.section_at-3 in
-    let at-shares = c.shares-1 in
     let at-section-at4 = c.section_at-4 in
-    let at-minima = c.minima-1 in
     let bytes = c.args.b.now in
-    let p1 = at_rows.given.0.0 in
-    let n1 = at_rows.given.0.1.0 in
-    let k1 = subst (λ (f : Found). SectionAt bytes 0 f) at_rows.given.1 at-section-at.ensures in
-    let p2 = at-panes.given.0.0 in
-    let n2 = at-panes.given.0.1.0 in
+    let p1 = c.in-At.rows in
+    let n1 = c.in-At.row_count in
+    let k1 = subst (λ (f : Found). SectionAt bytes 0 f) c.in-At.is at-section-at.ensures in
+    let p2 = c.in-At-section_at.panes in
+    let n2 = c.in-At-section_at.pane_count in
     let q2 = p1 + 8 * n1 in
-    let k2 = subst (λ (f : Found). SectionAt bytes q2 f) at-panes.given.1 at-section-at2.ensures in
-    let p3 = at-shares.given.0.0 in
-    let n3 = at-shares.given.0.1.0 in
+    let k2 = subst (λ (f : Found). SectionAt bytes q2 f) c.in-At-section_at.is at-section-at2.ensures in
+    let p3 = c.in-At-section_at-2.shares in
+    let n3 = c.in-At-section_at-2.share_count in
     let q3 = p2 + 8 * n2 in
-    let k3 = subst (λ (f : Found). SectionAt bytes q3 f) at-shares.given.1 at-section-at3.ensures in
-    let p4 = at-minima.given.0.0 in
-    let n4 = at-minima.given.0.1.0 in
+    let k3 = subst (λ (f : Found). SectionAt bytes q3 f) c.in-At-section_at-2.is at-section-at3.ensures in
+    let p4 = c.in-At-section_at-3.minima in
+    let n4 = c.in-At-section_at-3.minimum_count in
     let q4 = p3 + 8 * n3 in
-    let k4 = subst (λ (f : Found). SectionAt bytes q4 f) at-minima.given.1 at-section-at4.ensures in
+    let k4 = subst (λ (f : Found). SectionAt bytes q4 f) c.in-At-section_at-3.is at-section-at4.ensures in
     no_more bytes p1 n1 k1.is p2 n2 k2.is p3 n3 k3.is p4 n4 k4.is k1.here k2.here k3.here k4.here c.if-end-b.false
