@@ -343,7 +343,7 @@ def turn_cycle(path, known, crate, module):
     decls, tail = declarations(text)
     imports = [d[2] for d in decls if d[0] == "use"]
     top = next((d[1] for d in decls if d[0] == "use"), [])
-    imports = [i for i in imports if not re.search(r"\.(Statement|Tie|Reads|Kinds|Lts|Lts-\w+|\{statement\})\b|borrow\.Fn\.|\.\{statement\}$| as \S+-(?:reads|kinds|lts)$", i)]
+    imports = [i for i in imports if not re.search(r"\.(Statement|Tie|Kinds|Lts|Lts-\w+|\{statement\})\b|\.Reads as |borrow\.Fn\.|\.\{statement\}$| as \S+-(?:reads|kinds|lts)$", i)]
     stem = f"Rattle-{crate}-proofs.{module}.Lts-"
     members = {k[len(stem) :]: v for k, v in known.items() if k.startswith(stem)}
     if not members:

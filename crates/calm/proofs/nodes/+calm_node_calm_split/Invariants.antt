@@ -4,6 +4,7 @@ use Prim.Native.Nat.{◌+◌, ◌-◌, ◌*◌, ◌≤◌}
 use lib.ListN.{get_or}
 use Rattle.columns.specs.Columns.{axis_from, nodes_from}
 use Rattle.calm.specs.Calm.{calm}
+use Rattle.calm.specs.Reads.{Rows}
 use Rattle.calm.proofs.NodeLaws.{Going, kids}
 use Rattle.calm.proofs.nodes.+calm_node_calm_split.Given as goal
 
