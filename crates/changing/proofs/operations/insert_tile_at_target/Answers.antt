@@ -37,11 +37,10 @@ returns-in-Root c =
 pub returns-in-Split : goal.returns-in-Split
 returns-in-Split c =
     let x = c.args in
-    let y = c.target-1.given.0 in
     record {
       even = c.put_near-in-Split.ensures.even;
       steps = λ a T. steps-like a (Rule.insert_tile_at_target a x.pane x.target (draft a.root (nodes_from x.heads.now x.ids.now x.shares.now x.minima.now))) _ c.put_near-in-Split.result _
-          (ap (λ (d : DockTarget). Rule.insert_tile_at_target a x.pane d (draft a.root (nodes_from x.heads.now x.ids.now x.shares.now x.minima.now))) c.in-Split.is ∙ ap (λ (n : Node). Rule.put_near a n (beside y.0 y.1.0 y.1.1.0 y.1.1.1.0) (draft a.root (nodes_from x.heads.now x.ids.now x.shares.now x.minima.now))) (sym c.pane_slot-new.ensures.0))
+          (ap (λ (d : DockTarget). Rule.insert_tile_at_target a x.pane d (draft a.root (nodes_from x.heads.now x.ids.now x.shares.now x.minima.now))) c.in-Split.is ∙ ap (λ (n : Node). Rule.put_near a n (beside c.in-Split.tile c.in-Split.axis c.in-Split.placement c.in-Split.ratio) (draft a.root (nodes_from x.heads.now x.ids.now x.shares.now x.minima.now))) (sym c.pane_slot-new.ensures.0))
           (c.put_near-in-Split.ensures.steps a (fits-new x.root x.room (nodes_from x.heads.now x.ids.now x.shares.now x.minima.now) (view_slot c.pane_slot-new.result) (pane x.pane) a c.pane_slot-new.ensures.0 refl T));
     }
 
