@@ -1,4 +1,4 @@
-//! Finds libtiling_c.a, which `rt staticlib tiling_c` writes, and links it.
+//! Finds libtiling_c.a, which `rust/library.sh` makes, and links it.
 //!
 //! The folder comes from TILING_LIB; without it, `target/staticlib` of the
 //! repository's root is taken.
@@ -15,7 +15,7 @@ fn main() {
     println!("cargo:rerun-if-changed={}", archive.display());
     if !archive.is_file() {
         panic!(
-            "{ARCHIVE} is not in {}: run `rt staticlib tiling_c` in the repository's root, \
+            "{ARCHIVE} is not in {}: run `rust/library.sh` in the repository's root, \
              or set TILING_LIB to the folder that holds it",
             folder.display()
         );
