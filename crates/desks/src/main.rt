@@ -4,10 +4,10 @@
 ghost use Rattle.std.specs.Prelude.{◌≤◌, ◌<◌};
 
 use frame::{Layout, Panes, Tabs};
-use libc::STDOUT_FILENO;
 use rules::frame::{LayoutInput, Rect, Size};
 use rules::model::{Axis, Ids, Kind, Reals, Slot, TabBarPlacement, TileId, TileTree, Tiles};
 use rules::refusal::Answer;
+use std::io;
 
 // A slot of a kind, with no list in use.
 fn bare(kind: Kind) -> Slot {
@@ -265,12 +265,12 @@ fn one_if(yes: bool) -> u64
     if yes { 1 } else { 0 }
 }
 
-fn main() {
+fn main(rt: HostRuntime) -> io::Result<()> {
     let first = one_if(e11());
     let second = one_if(e12());
     let third = one_if(empty());
     let fourth = one_if(full());
     let fifth = one_if(deep());
-    io::print_decimal(STDOUT_FILENO, first + second + third + fourth + fifth);
-    io::write_all(STDOUT_FILENO, b" of 5 desks agree\n");
+    let agreed = first + second + third + fourth + fifth;
+    println!(rt; "{agreed} of 5 desks agree")
 }

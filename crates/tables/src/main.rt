@@ -4,7 +4,8 @@
 
 ghost use Rattle.std.specs.Prelude.{◌≤◌};
 
-use libc::STDOUT_FILENO;
+use std::io;
+use std::io::Print;
 
 // Bytes written so far.
 #[derive(Clone, Copy)]
@@ -161,42 +162,46 @@ fn chain(zeros: [u8; 800016]) -> [u8; 800016] {
     b
 }
 
-fn line(label: &[u8], n: u64) {
-    io::write_all(STDOUT_FILENO, label);
-    io::print_decimal(STDOUT_FILENO, n);
-    io::write_all(STDOUT_FILENO, b"\n");
+fn line(rt: &impl Print, label: &[u8], n: u64) -> io::Result<()> {
+    rt.write_all(label)?;
+    println!(rt; "{n}")
 }
 
 // A grid's answer.
-fn show_grid(label: &[u8], w: Written) {
+fn show_grid(rt: &impl Print, label: &[u8], w: Written) -> io::Result<()> {
     let at = w.at;
-    line(label, answer_of(&at, w.len));
+    line(rt, label, answer_of(&at, w.len))
 }
 
 // The beginnings of a grid of 64 rows.
-fn show_beginnings(w: Written) {
+fn show_beginnings(rt: &impl Print, w: Written) -> io::Result<()> {
     let at = w.at;
     let n = w.len;
-    line(b"bytes of a good table: ", n as u64);
+    line(rt, b"bytes of a good table: ", n as u64)?;
     line(
+        rt,
         b"its proper beginnings refused with 1: ",
         beginnings(&at, n),
-    );
+    )
 }
 
-fn show_chain() {
+fn show_chain(rt: &impl Print) -> io::Result<()> {
     let zeros = [0u8; 800016];
     let mut b = chain(zeros);
-    line(b"100000 rows: ", answer_of(&b, 800016));
+    line(rt, b"100000 rows: ", answer_of(&b, 800016))?;
     b[799996] = 3;
-    line(b"100000 rows, the last of no kind: ", answer_of(&b, 800016));
+    line(
+        rt,
+        b"100000 rows, the last of no kind: ",
+        answer_of(&b, 800016),
+    )
 }
 
-fn main() {
-    show_grid(b"64 rows: ", grid(0, 7, 8, 56));
-    show_grid(b"65 rows: ", grid(1, 7, 8, 56));
-    show_grid(b"16 children: ", grid(16, 0, 0, 0));
-    show_grid(b"17 children: ", grid(17, 0, 0, 0));
-    show_chain();
-    show_beginnings(grid(0, 7, 8, 56));
+fn main(rt: HostRuntime) -> io::Result<()> {
+    show_grid(&rt, b"64 rows: ", grid(0, 7, 8, 56))?;
+    show_grid(&rt, b"65 rows: ", grid(1, 7, 8, 56))?;
+    show_grid(&rt, b"16 children: ", grid(16, 0, 0, 0))?;
+    show_grid(&rt, b"17 children: ", grid(17, 0, 0, 0))?;
+    show_chain(&rt)?;
+    show_beginnings(&rt, grid(0, 7, 8, 56))
 }

@@ -4,7 +4,8 @@
 ghost use Rattle.std.specs.Prelude.{◌≤◌, length};
 
 use drafting::draft::Draft;
-use libc::STDOUT_FILENO;
+use std::io;
+use std::io::{BufReader, Read};
 use wire::threes::Numbers;
 
 // Whether a refusal is the one that stands in the body.
@@ -57,10 +58,10 @@ fn same_case(b: &[u8]) -> bool {
 }
 
 // The next case of the input, read into a buffer.
-fn next_case(buf: &mut [u8]) -> bool {
-    let n = wire::input::body_in(buf);
+fn next_case(input: &mut impl Read, buf: &mut [u8]) -> io::Result<bool> {
+    let n = wire::input::body_in(input, buf)?;
     let b = &buf[..n];
-    same_case(b)
+    Ok(same_case(b))
 }
 
 fn one_if(yes: bool) -> u64
@@ -70,24 +71,22 @@ fn one_if(yes: bool) -> u64
 }
 
 // How many of the next cases agree.
-fn count(cases: u64, buf: &mut [u8]) -> u64 {
+fn count(input: &mut impl Read, cases: u64, buf: &mut [u8]) -> io::Result<u64> {
     let mut agreed = 0u64;
     let mut left = cases;
     while 0 < left {
-        let more = one_if(next_case(buf));
+        let more = one_if(next_case(input, buf)?);
         agreed += more;
         left -= 1;
     }
-    agreed
+    Ok(agreed)
 }
 
-fn main() {
-    wire::input::skip_magic();
-    let cases = wire::input::number_in();
-    let mut space = io::large_buffer();
-    let agreed = count(cases, &mut space);
-    io::print_decimal(STDOUT_FILENO, agreed);
-    io::write_all(STDOUT_FILENO, b" of ");
-    io::print_decimal(STDOUT_FILENO, cases);
-    io::write_all(STDOUT_FILENO, b" specs agree\n");
+fn main(rt: HostRuntime) -> io::Result<()> {
+    let mut input = BufReader::new(rt.alloc(), rt.reader())?;
+    wire::input::skip_magic(&mut input)?;
+    let cases = wire::input::number_in(&mut input)?;
+    let mut space = [0u8; 65536];
+    let agreed = count(&mut input, cases, &mut space)?;
+    println!(rt; "{agreed} of {cases} specs agree")
 }
