@@ -3,7 +3,7 @@ use Prim.Native.Nat.{◌≤◌, ◌-◌}
 use Rattle.wire.proofs.input.number_in.Given as goal
 
 abbrev pub invariant-loop-shift : goal.invariant-loop-shift
-invariant-loop-shift l = l.shift ≤ 70
+invariant-loop-shift g l = l.shift ≤ 70
 
 abbrev pub decreases-loop-shift : goal.decreases-loop-shift
-decreases-loop-shift l = 70 - l.shift
+decreases-loop-shift g l = 70 - l.shift
