@@ -1,12 +1,18 @@
 // The stored answers as they come on a reader: eight bytes, how many cases there are, then each case's length in bytes and its body.
-ghost use Rattle.std.specs.Prelude.{◌≤◌, length, IfOk};
+// An error of the reader is handed on. It leaves the reader further on in the bytes that it had, and none of those changed.
+ghost use Rattle.std.specs.Prelude.{◌<◌, ◌≤◌, length, take, IfOk};
+ghost use Rattle.std.specs.Io.KnownBytes.{Consumes, IsAtEnd};
+ghost use Rattle.wire.specs.Passing.{EndsWithBuffer, Passes};
 
 use std::io;
 use std::io::Read;
 
 // Reads until the buffer is full or the input ends: how many bytes it put at the buffer's start.
-fn read_full(input: &mut impl Read, buf: &mut [u8]) -> io::Result<usize>
-    ensures { IfOk result (λ n. n ≤ length buf.new) }
+fn read_full<R: Read>(input: &mut R, buf: &mut [u8]) -> io::Result<usize>
+    ensures within { IfOk result (λ n. n ≤ length buf.new) }
+    ensures filled { IfOk result (λ n. Consumes (R.remaining input.old) (R.remaining input.new) (take n buf.new)) }
+    ensures short { IfOk result (λ n. n < length buf.new → IsAtEnd (R.remaining input.new)) }
+    ensures passes { Passes (R.remaining input.old) (R.remaining input.new) }
 {
     let mut done = 0usize;
     while done < buf.len() {
@@ -20,7 +26,9 @@ fn read_full(input: &mut impl Read, buf: &mut [u8]) -> io::Result<usize>
 }
 
 // One byte, 0 where the input has ended.
-fn byte_in(input: &mut impl Read) -> io::Result<u8> {
+fn byte_in<R: Read>(input: &mut R) -> io::Result<u8>
+    ensures { Passes (R.remaining input.old) (R.remaining input.new) }
+{
     let mut one = [0u8; 1];
     read_full(input, &mut one)?;
     Ok(one[0])
@@ -30,10 +38,10 @@ fn wide(x: u8) -> u64 {
     x as u64
 }
 
-// A number, as wire::number reads it from a slice. No contract can say what is read, so this one gives only its range: below 2^32, as every count of the files is.
-// A read that fails is an Err, after which the reader stands wherever that read left it.
-pub fn number_in(input: &mut impl Read) -> io::Result<u64>
-    ensures { IfOk result (λ n. n ≤ 4294967295) }
+// A number, as wire::number reads it from a slice. No contract can say what a file holds, so this one gives only its range: below 2^32, as every count of the files is.
+pub fn number_in<R: Read>(input: &mut R) -> io::Result<u64>
+    ensures range { IfOk result (λ n. n ≤ 4294967295) }
+    ensures passes { Passes (R.remaining input.old) (R.remaining input.new) }
 {
     let mut value = 0u64;
     let mut shift = 0u32;
@@ -49,17 +57,19 @@ pub fn number_in(input: &mut impl Read) -> io::Result<u64>
 }
 
 // The magic word, passed over: how many bytes of it there were.
-pub fn skip_magic(input: &mut impl Read) -> io::Result<usize>
-    ensures { IfOk result (λ n. n ≤ 8) }
+pub fn skip_magic<R: Read>(input: &mut R) -> io::Result<usize>
+    ensures within { IfOk result (λ n. n ≤ 8) }
+    ensures passes { Passes (R.remaining input.old) (R.remaining input.new) }
 {
     let mut word = [0u8; 8];
     read_full(input, &mut word)
 }
 
 // The next case's body at the start of a buffer: its length, or less where the input ends; 0 for one that is too long.
-// After an Err the buffer holds what had been read, as far as it came.
-pub fn body_in(input: &mut impl Read, buf: &mut [u8]) -> io::Result<usize>
-    ensures { IfOk result (λ n. n ≤ length buf.new) }
+pub fn body_in<R: Read>(input: &mut R, buf: &mut [u8]) -> io::Result<usize>
+    ensures within { IfOk result (λ n. n ≤ length buf.new) }
+    ensures body { IfOk result (λ n. EndsWithBuffer (R.remaining input.old) (R.remaining input.new) buf.new n) }
+    ensures passes { Passes (R.remaining input.old) (R.remaining input.new) }
 {
     let n = number_in(input)?;
     if (buf.len() as u64) < n {

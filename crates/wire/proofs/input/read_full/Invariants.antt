@@ -1,9 +1,10 @@
--- `done` bytes of the buffer are filled, and each turn fills one more at least.
-use Rattle.std.proofs.Common.{◌≤◌, ◌-◌, length}
+-- `done` bytes of the buffer are filled, and they are what the reader lost; each turn fills one more at least.
+use Rattle.std.proofs.Common.{◌≤◌, ◌-◌, length, take}
+use Rattle.std.specs.Io.KnownBytes.{Consumes}
 use Rattle.wire.proofs.input.read_full.Given as goal
 
 abbrev pub invariant-loop-done : goal.invariant-loop-done
-invariant-loop-done g l = l.done ≤ length l.buf
+invariant-loop-done g l = (l.done ≤ length l.buf) × Consumes (g.R.Read.remaining l.initial.input) (g.R.Read.remaining l.input) (take l.done l.buf)
 
 abbrev pub decreases-loop-done : goal.decreases-loop-done
 decreases-loop-done g l = length l.buf - l.done
