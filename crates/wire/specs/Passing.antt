@@ -1,5 +1,5 @@
 -- What reading does to the bytes that a reader has left, where those are known. Definitions only.
-use Rattle.std.specs.Prelude.{ℕ, List, ◌++◌, length, take}
+use Rattle.std.specs.Prelude.{ℕ, List, ◌++◌, take}
 use Rattle.std.specs.Io.KnownBytes.{Consumes}
 use Rattle.core.specs.declared.option.Option.{Option}
 
