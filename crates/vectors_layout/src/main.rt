@@ -7,7 +7,7 @@ use frame::Layout;
 use rules::frame::{LayoutInput, Rect, Size};
 use rules::model::TileTree;
 use std::io;
-use std::io::{BufReader, Read};
+use std::io::Read;
 use wire::threes::Numbers;
 
 mod lists;
@@ -151,7 +151,7 @@ fn count(input: &mut impl Read, cases: u64, buf: &mut [u8]) -> io::Result<u64> {
 }
 
 fn main(rt: HostRuntime) -> io::Result<()> {
-    let mut input = BufReader::new(rt.alloc(), rt.reader())?;
+    let mut input = rt.stdin();
     wire::input::skip_magic(&mut input)?;
     let cases = wire::input::number_in(&mut input)?;
     let mut space = [0u8; 65536];

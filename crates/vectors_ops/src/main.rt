@@ -5,7 +5,7 @@ ghost use Rattle.std.specs.Prelude.{◌≤◌};
 
 use rules::model::TileTree;
 use std::io;
-use std::io::{BufReader, Read};
+use std::io::Read;
 use wire::threes::Numbers;
 
 mod cases;
@@ -104,7 +104,7 @@ fn count(input: &mut impl Read, cases: u64, buf: &mut [u8]) -> io::Result<u64> {
 }
 
 fn main(rt: HostRuntime) -> io::Result<()> {
-    let mut input = BufReader::new(rt.alloc(), rt.reader())?;
+    let mut input = rt.stdin();
     wire::input::skip_magic(&mut input)?;
     let cases = wire::input::number_in(&mut input)?;
     let mut space = [0u8; 65536];

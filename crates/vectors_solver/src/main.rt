@@ -6,7 +6,7 @@ ghost use Rattle.std.specs.Prelude.{◌≤◌, length};
 use rules::model::Reals;
 use rules::solving::Solution;
 use std::io;
-use std::io::{BufReader, Read};
+use std::io::Read;
 
 // Whether the lengths are those that follow in the body, with the same bits.
 fn same_lengths(b: &[u8], at: usize, l: Reals) -> bool {
@@ -111,7 +111,7 @@ fn count(input: &mut impl Read, cases: u64, buf: &mut [u8]) -> io::Result<u64> {
 }
 
 fn main(rt: HostRuntime) -> io::Result<()> {
-    let mut input = BufReader::new(rt.alloc(), rt.reader())?;
+    let mut input = rt.stdin();
     wire::input::skip_magic(&mut input)?;
     let cases = wire::input::number_in(&mut input)?;
     let mut space = [0u8; 65536];
