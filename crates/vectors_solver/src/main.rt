@@ -1,7 +1,7 @@
 // The stored answers of the solver (docs/VECTORS.md), put to the library and compared bit for bit.
 #![tactic(auto)]
 
-ghost use Rattle.std.specs.Prelude.{◌≤◌, length};
+ghost use Rattle.std.specs.Prelude.{◌≤◌};
 
 use rules::model::Reals;
 use rules::solving::Solution;

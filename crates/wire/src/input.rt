@@ -66,6 +66,7 @@ pub fn skip_magic<R: Read>(input: &mut R) -> io::Result<usize>
 }
 
 // The next case's body at the start of a buffer: its length, or less where the input ends; 0 for one that is too long.
+// After an error the buffer may hold the part of a body that came.
 pub fn body_in<R: Read>(input: &mut R, buf: &mut [u8]) -> io::Result<usize>
     ensures within { IfOk result (λ n. n ≤ length buf.new) }
     ensures body { IfOk result (λ n. EndsWithBuffer (R.remaining input.old) (R.remaining input.new) buf.new n) }
