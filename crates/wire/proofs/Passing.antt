@@ -1,6 +1,6 @@
 -- A reader that goes on, and goes on again, has gone on.
 use Rattle.std.proofs.Common.{ℕ, List, ◌++◌}
-use Rattle.core.specs.declared.option.Option.{Option}
+use Rattle.std.specs.declared.option.Option.{Option}
 use Rattle.std.proofs.KnownBytes.{Consumes-trans}
 use Rattle.wire.specs.Passing.{Passes}
 

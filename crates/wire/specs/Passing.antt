@@ -1,7 +1,7 @@
 -- What reading does to the bytes that a reader has left, where those are known. Definitions only.
 use Rattle.std.specs.Prelude.{ℕ, List, ◌++◌, take}
 use Rattle.std.specs.Io.KnownBytes.{Consumes}
-use Rattle.core.specs.declared.option.Option.{Option}
+use Rattle.std.specs.declared.option.Option.{Option}
 
 -- some bytes are gone from the front, and the rest are as they were
 abbrev pub Passes : Option (List ℕ) → Option (List ℕ) → Type 0
