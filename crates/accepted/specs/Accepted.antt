@@ -1,6 +1,6 @@
 -- What from_spec answers, for any bytes. An accepted table's tree is sound, its panes in reading order are the panes section, and its revision
 -- is 0; a refused one's is a lone empty root; and the answer is one. Assumes nothing.
-use Rattle.std.specs.Prelude.{◌≡◌, ◌≢◌, ◌↔◌, ◌⊎◌, Bool, true, false, List, [], ℕ, zero, suc, ◌-◌, ◌≤◌, ltb, length, get_or, replicate}
+use Rattle.std.specs.Prelude.{◌≡◌, ◌≢◌, ◌↔◌, ◌⊎◌, Bool, true, false, List, [], ℕ, zero, suc, ◌≤◌, ltb, length, get_or, replicate}
 use Rattle.std.proofs.Math.Path.{refl}
 use Rattle.std.proofs.Common.{sym, ap, subst, ◌∙◌, inl, inr, arith, ltb-false}
 use Rattle.std.proofs.Math.Option.{Option, none, some}

@@ -1,6 +1,6 @@
 -- A table that was read fits its rows; and what is built from one that passed validation is a loose forest, which shows the panes section.
 -- Assumes nothing.
-use Rattle.std.specs.Prelude.{◌≡◌, refl, Bool, true, false, ◌&&◌, ℕ, ◌+◌, ◌-◌, ◌≤◌, eqb, length, replicate}
+use Rattle.std.specs.Prelude.{◌≡◌, refl, Bool, true, false, ◌&&◌, ℕ, ◌-◌, ◌≤◌, eqb, length, replicate}
 use Rattle.std.proofs.Math.Path.{sym, ap}
 use Rattle.std.proofs.Common.{subst, ◌∙◌, arith, eqb-true, length-append}
 use mathlib.Core.List.{List, [], ◌∷◌, ◌++◌, map, append-nil}

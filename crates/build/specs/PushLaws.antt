@@ -1,5 +1,5 @@
 -- The recursion's laws: nodes of a run of rows, and of two runs that follow each other. Assumes nothing.
-use Rattle.std.specs.Prelude.{◌≡◌, refl, Bool, false, ◌||◌, List, [], ◌∷◌, ◌++◌, map, ℕ, zero, suc, ◌+◌, ◌-◌, ◌*◌, ◌≤◌, ◌<◌, length, get_or, take, drop}
+use Rattle.std.specs.Prelude.{◌≡◌, refl, Bool, false, ◌||◌, List, [], ◌∷◌, ◌++◌, map, ℕ, zero, suc, ◌+◌, ◌*◌, ◌≤◌, ◌<◌, length, get_or, take, drop}
 use Rattle.std.proofs.Common.{sym, ap, ◌∙◌, append-nil, le_of_suc-le-suc, arith, ltb-false, take-append-drop, drop_of_length-le, take-take, drop-drop}
 use Rattle.std.proofs.Math.Seq.{slice, slice_empty}
 use Rattle.rules.specs.Lists.{any_of}

@@ -1,5 +1,5 @@
 -- A slot by its lists. Assumes nothing.
-use Rattle.std.specs.Prelude.{◌≡◌, false, ◌||◌, List, ℕ, ◌+◌, ◌-◌, ◌*◌, ◌≤◌, ◌<◌, ltb, length, get_or, take, drop}
+use Rattle.std.specs.Prelude.{◌≡◌, false, ◌||◌, List, ℕ, ◌+◌, ◌*◌, ◌≤◌, ◌<◌, ltb, length, get_or, take, drop}
 use Rattle.std.proofs.Common.{sym, ap, ◌∙◌, arith, le-ltb, get_or-take, get_or-drop}
 use Rattle.std.proofs.lemmas.List.{length-map}
 use Rattle.rules.specs.Tree.{tile}

@@ -10,7 +10,7 @@ use Rattle.rules.specs.Lists.{contains}
 use Rattle.rules.specs.Shares.{repaired_shares, eq_reals}
 use Rattle.rules.specs.Minima.{aligned_constraints, compact_constraints}
 use Rattle.rules.specs.Tree.{Node, empty, pane, tabs, split, node_at}
-use Rattle.rules.specs.Repair.{added_if, State, Work, Out, state, claim, pane_by, Sifted, sifted, sift_by, retain, active_of, group_left, group_step, Entry, entries, Run, run, melts, place_by, place, place_out, kids_from, shares_of, split_left, split_noted, split_step, by_node, by_claimed, by_range, tile_step, normalize_node}
+use Rattle.rules.specs.Repair.{added_if, State, Work, Out, claim, pane_by, Sifted, sifted, sift_by, retain, active_of, group_left, group_step, Entry, entries, Run, run, melts, place_by, place, place_out, kids_from, shares_of, split_left, split_noted, split_step, by_node, by_claimed, by_range, tile_step, normalize_node}
 use Rattle.rules.specs.declared.model.TileId.{TileId}
 use Rattle.rules.specs.declared.model.Axis.{Axis}
 use Rattle.rules.specs.declared.model.TabBarPlacement.{TabBarPlacement}

@@ -1,5 +1,5 @@
 -- A settled tree is nested within 64. Assumes nothing.
-use Rattle.std.specs.Prelude.{List, ◌++◌, ℕ, zero, suc, ◌+◌, ◌≤◌, length}
+use Rattle.std.specs.Prelude.{List, ℕ, zero, suc, ◌≤◌, length}
 use Rattle.std.proofs.Common.{arith, length-append}
 use Rattle.rules.specs.Tree.{Node}
 use Rattle.rules.specs.declared.model.TileId.{TileId}

@@ -5,7 +5,7 @@ use Rattle.std.proofs.Common.{sym, ap, ◌∙◌, arith}
 use Rattle.std.proofs.Math.Option.{Option, none, some}
 use Rattle.rules.specs.Lists.{any_of}
 use Rattle.rules.specs.Tree.{Node, Arena, arena, tile, set_node, empty_slots, empty_group, wide_node, reading_from}
-use Rattle.rules.specs.Repair.{State, Work, Out, sweep_by, sweep, rooted, begin, normalize_node, normalize, Repaired, refused_repair, repaired_by, repaired_as, repair_by, repair}
+use Rattle.rules.specs.Repair.{Work, Out, sweep_by, sweep, rooted, begin, normalize_node, normalize, Repaired, refused_repair, repaired_by, repaired_as, repair_by, repair}
 use Rattle.rules.specs.declared.model.TileId.{TileId}
 use Rattle.rules.specs.declared.model.RepairAction.{RepairAction}
 use Rattle.rules.specs.declared.refusal.Answer.TheVariants.{Accepted}

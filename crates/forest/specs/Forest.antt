@@ -1,6 +1,6 @@
 -- The ghost of a tree: a forest as one plain data type, child then sibling, whose roots have shares and minima; and what it means that slots hold it.
 -- Assumes nothing.
-use Rattle.std.specs.Prelude.{◌≡◌, refl, ◌≢◌, Bool, true, false, not, ◌||◌, List, [], ◌∷◌, ◌++◌, map, ℕ, zero, suc, ◌+◌, ◌≤◌, ◌<◌, T, ltb, length, get_or, Float}
+use Rattle.std.specs.Prelude.{◌≡◌, refl, Bool, false, ◌||◌, List, [], ◌∷◌, ◌++◌, map, ℕ, ◌≤◌, ◌<◌, ltb, length, get_or, Float}
 use Rattle.std.proofs.Common.{sym, ap, subst, ◌∙◌, append_assoc}
 use Rattle.std.proofs.Math.Bool.{or_assoc}
 use Rattle.rules.specs.Tree.{Node, empty, pane, tabs, split, node_at, is_empty}

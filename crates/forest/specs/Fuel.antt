@@ -1,13 +1,13 @@
 -- More fuel gives the same answer, once there is fuel for each slot that is not claimed. By induction on the fuel. Assumes nothing.
-use Rattle.std.specs.Prelude.{◌≡◌, Bool, true, ℕ, zero, suc, ◌+◌, ◌≤◌, ◌<◌, leb, length, get_or, set, Float}
+use Rattle.std.specs.Prelude.{◌≡◌, Bool, true, ℕ, zero, suc, ◌≤◌, ◌<◌, leb, length, get_or, Float}
 use Rattle.std.proofs.Math.Path.{refl, ap}
-use Rattle.std.proofs.Common.{sym, ◌∙◌, arith, leb-false, length-set}
+use Rattle.std.proofs.Common.{◌∙◌, arith, leb-false, length-set}
 use Rattle.std.proofs.Math.Bool.{false}
-use mathlib.Core.List.{List, [], ◌∷◌, ◌++◌}
+use mathlib.Core.List.{List, [], ◌∷◌}
 use Rattle.rules.specs.Tree.{Node, empty, pane, tabs, split, node_at}
 use Rattle.rules.specs.Shares.{repaired_shares}
 use Rattle.rules.specs.Minima.{aligned_constraints}
-use Rattle.rules.specs.Repair.{State, Work, Out, gone, claim, Entry, entries, Run, run, place_out, kids_from, split_done, split_noted, split_step, by_node, by_claimed, by_range, tile_step, normalize_node}
+use Rattle.rules.specs.Repair.{Work, Out, gone, claim, Entry, entries, Run, run, place_out, kids_from, split_done, split_noted, split_step, by_node, by_claimed, by_range, tile_step, normalize_node}
 use Rattle.rules.specs.declared.model.TileId.{TileId}
 use Rattle.rules.specs.declared.model.Axis.{Axis}
 use Rattle.forest.specs.Lists.{All, free, free-set}

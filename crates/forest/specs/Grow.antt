@@ -1,6 +1,6 @@
 -- What a walk of the repair leaves: a forest that the slots hold, of tiles that it claimed, none twice, each pane once. By induction on the fuel.
 -- Assumes nothing.
-use Rattle.std.specs.Prelude.{◌≡◌, ◌≢◌, Bool, not, ◌||◌, ℕ, zero, suc, ◌+◌, ◌≤◌, ◌<◌, leb, eqb, length, get_or, set, Float}
+use Rattle.std.specs.Prelude.{◌≡◌, ◌≢◌, Bool, ◌||◌, ℕ, zero, suc, ◌+◌, ◌≤◌, ◌<◌, leb, eqb, length, get_or, set, Float}
 use Rattle.std.proofs.Math.Path.{refl, sym, ap, subst}
 use Rattle.std.proofs.Common.{◌∙◌, arith, leb-false, length-set, length-append}
 use Rattle.std.proofs.Math.Bool.{true, false, or-false}

@@ -6,16 +6,15 @@ use Rattle.std.proofs.Common.{◌∙◌, inl, inr, arith, leb-false, length-set,
 use Rattle.std.proofs.Math.Bool.{false}
 use mathlib.Core.List.{List, [], ◌∷◌, ◌++◌, append_assoc, append-nil}
 use Rattle.std.proofs.Math.Option.{Option, none, some}
-use Prim.Native.Nat.{ℕ, zero, suc, ◌+◌, ◌≤◌, ◌<◌}
+use Prim.Native.Nat.{ℕ, zero, suc, ◌≤◌, ◌<◌}
 use Rattle.std.proofs.Math.ListN.{length, length-append}
 use Rattle.rules.specs.Numbers.{zero-f}
 use Rattle.rules.specs.Lists.{any_of}
 use Rattle.rules.specs.Tree.{Node, empty, pane, tabs, split, node_at, Arena, empty_slots, wide_node}
 use Rattle.rules.specs.Target.{panes_in}
 use Rattle.rules.specs.Shares.{repaired_shares}
-use Rattle.rules.specs.Shares as Shares
 use Rattle.rules.specs.Minima.{fix_minimum, aligned_constraints}
-use Rattle.rules.specs.Repair.{State, Work, Out, state, work, claim, gone, pane_by, Sifted, sifted, sift_by, retain, group_left, group_step, Entry, entry, entries, Run, run, melts, place_by, place, place_out, kids_from, children_of, split_left, split_done, split_noted, split_step, by_node, by_claimed, by_range, tile_step, normalize_node, Normal, begin, normalize, repaired_by, repaired_as, repair_by, repair}
+use Rattle.rules.specs.Repair.{State, Work, Out, state, claim, gone, pane_by, Sifted, sifted, sift_by, retain, group_left, group_step, Entry, entry, entries, Run, run, melts, place_by, place, place_out, kids_from, children_of, split_left, split_done, split_noted, split_step, by_node, by_claimed, by_range, tile_step, normalize_node, Normal, begin, normalize, repaired_by, repaired_as, repair_by, repair}
 use Rattle.rules.specs.declared.model.TileId.{TileId}
 use Rattle.rules.specs.declared.model.Axis.{Axis}
 use Rattle.rules.specs.declared.model.Axis.TheVariants.{Horizontal}

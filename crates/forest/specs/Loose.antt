@@ -6,7 +6,6 @@ use Rattle.std.proofs.Common.{ap, subst, sym}
 use Rattle.rules.specs.Tree.{Node, empty, pane, tabs, split, node_at, Member}
 use Rattle.rules.specs.declared.model.TileId.{TileId}
 use Rattle.forest.specs.Lists.{All, Distinct, all_append}
-use Rattle.forest.specs.Forest as Normal
 use Rattle.forest.specs.Forest.{Forest, nil, leaf, node, Leafy, Holds}
 use Rattle.forest.specs.Again as Again
 

@@ -14,7 +14,7 @@ use Rattle.rules.specs.Lists.{any_of, contains, wide_list}
 use Rattle.rules.specs.Shares.{repaired_shares, eq_reals}
 use Rattle.rules.specs.Minima.{aligned_constraints, compact_constraints}
 use Rattle.rules.specs.Tree.{Node, empty, pane, tabs, split, tile, node_at, is_empty, kids_of, panes_of, wide_node}
-use Rattle.rules.specs.Repair.{added_by, added, added_if, same_action, State, Work, Out, state, work, claim, pane_by, Sifted, sifted, sift_by, retain, active_of, group_left, group_step, Entry, entries, Run, run, melts, place_by, place, place_out, kids_from, children_of, shares_of, minima_of, split_left, split_noted, split_step, by_node, by_claimed, by_range, tile_step, normalize_node, is_reached, sweep_note, sweep_actions, sweep}
+use Rattle.rules.specs.Repair.{added_by, added, added_if, same_action, State, Work, Out, state, claim, pane_by, Sifted, sifted, sift_by, retain, active_of, group_left, group_step, Entry, entries, Run, run, melts, place_by, place, place_out, kids_from, children_of, shares_of, minima_of, split_left, split_noted, split_step, by_node, by_claimed, by_range, tile_step, normalize_node, is_reached, sweep_note, sweep_actions}
 use Rattle.rules.specs.declared.model.TileId.{TileId}
 use Rattle.rules.specs.declared.model.Axis.{Axis}
 use Rattle.rules.specs.declared.model.TabBarPlacement.{TabBarPlacement}

@@ -5,11 +5,11 @@ use Rattle.std.proofs.Common.{◌∙◌, inl, inr, arith}
 use mathlib.Core.List.{List, [], ◌∷◌, ◌++◌, append_assoc}
 use Rattle.std.proofs.Math.Option.{some}
 use Rattle.std.proofs.Math.Decide.{ℕ_discrete}
-use Rattle.rules.specs.Tree.{Node, empty, pane, Arena, arena, node_at, is_empty, kids_of, panes_of, reading, reading_from, Member, Occupied, Reached}
+use Rattle.rules.specs.Tree.{Node, empty, Arena, arena, node_at, is_empty, kids_of, panes_of, reading, reading_from, Member, Occupied, Reached}
 use Rattle.rules.specs.Target.{panes_along, panes_in}
 use Rattle.rules.specs.declared.model.TileId.{TileId}
 use Rattle.forest.specs.Lists.{All, Distinct, never, all_map, all_append, all-member, member-all, member-left, member_right, member-cases}
-use Rattle.forest.specs.Forest.{Forest, nil, leaf, node, roots, tiles, shown, Leafy, Holds, Full, holds-full}
+use Rattle.forest.specs.Forest.{Forest, nil, leaf, node, tiles, shown, Leafy, Holds, Full, holds-full}
 use Rattle.forest.specs.Grow.{Left, nothing, group, branch, kept_of, stem}
 use Rattle.forest.specs.Again.{names, heads, leafy-kids}
 use Rattle.forest.specs.Settled.{Tidy, Lone, Settled, slots, reads, slots-are, occupied-in}

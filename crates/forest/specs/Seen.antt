@@ -2,7 +2,7 @@
 use Rattle.std.specs.Prelude.{◌≡◌, refl, Bool, List, [], ◌∷◌, ℕ, ◌<◌, length, get_or}
 use Rattle.std.proofs.Common.{sym, ap, subst, ◌∙◌, inl, arith, get_or-set_same}
 use Rattle.std.proofs.Math.Option.{Option, none, some}
-use Rattle.rules.specs.Tree.{Node, empty, empty_group, tile, set_node, reading, reading_from}
+use Rattle.rules.specs.Tree.{Node, empty, empty_group, tile, set_node, reading_from}
 use Rattle.rules.specs.Target.{panes_in}
 use Rattle.rules.specs.Repair.{Out, sweep_by, swept, sweep, Normal, rooted, begin, normalize_node, normalize}
 use Rattle.rules.specs.declared.model.TileId.{TileId}

@@ -1,21 +1,21 @@
 -- What every accepted repair ends in: slots that hold one tree and nothing else, or a lone empty root; and the repair of such slots changes nothing.
 -- Assumes nothing.
-use Rattle.std.specs.Prelude.{◌≡◌, ◌≢◌, ◌⊎◌, Bool, not, ◌||◌, eqb, length, get_or, set, replicate}
+use Rattle.std.specs.Prelude.{◌≡◌, ◌≢◌, ◌⊎◌, Bool, ◌||◌, eqb, length, get_or}
 use Rattle.std.proofs.Math.Path.{refl, ap}
-use Rattle.std.proofs.Common.{sym, subst, ◌∙◌, inl, inr, eq-eqb, ne_eqb, length-set, length-append, ext_get_or, get_or-set_same, get_or-set_other}
+use Rattle.std.proofs.Common.{sym, subst, ◌∙◌, inl, inr, eq-eqb, ne_eqb, length-set, length-append, ext_get_or, get_or-set_same}
 use Rattle.std.proofs.Math.Bool.{true, false}
-use mathlib.Core.List.{List, [], ◌∷◌, ◌++◌, map, append-nil}
+use mathlib.Core.List.{List, [], ◌∷◌, ◌++◌, map}
 use Rattle.std.proofs.Math.Option.{Option, none, some}
 use Prim.Native.Nat.{ℕ, zero, suc, ◌+◌, ◌≤◌, ◌<◌}
 use native.Mathlib.Omega.{arith}
 use Rattle.rules.specs.Lists.{any_of}
-use Rattle.rules.specs.Tree.{Node, empty, empty_group, tile, node_at, set_node, is_empty, kids_of, reading, reading_from, steps, same_tile, Member}
-use Rattle.rules.specs.Repair.{State, Work, Out, state, work, out, normalize_node, is_reached, sweep_by, swept, sweep_note, sweep_actions, sweep, Normal, rooted, rooted_out, begin, normalize}
+use Rattle.rules.specs.Tree.{Node, empty, empty_group, tile, node_at, set_node, is_empty, kids_of, reading, reading_from, steps, Member}
+use Rattle.rules.specs.Repair.{Work, Out, work, out, normalize_node, is_reached, sweep_by, swept, sweep_note, sweep_actions, sweep, Normal, rooted, rooted_out, begin, normalize}
 use Rattle.rules.specs.declared.model.TileId.{TileId}
 use Rattle.rules.specs.declared.model.RepairAction.{RepairAction}
-use Rattle.forest.specs.Lists.{All, Distinct, never, all_map, all_both, all-member, member-all, find, none-at}
-use Rattle.forest.specs.Forest.{Forest, roots, tiles, shown, Holds, Full, Same, holds_same, holds-full}
-use Rattle.forest.specs.Grow.{Good, Grown, Left, nothing, group, branch, kept_of, stem, Keeps, tile-keeps}
+use Rattle.forest.specs.Lists.{All, Distinct, never, all_map, all-member, find, none-at}
+use Rattle.forest.specs.Forest.{tiles, shown, Holds, holds_same}
+use Rattle.forest.specs.Grow.{Good, Grown, Left, nothing, group, branch, kept_of, stem, tile-keeps}
 use Rattle.forest.specs.Again.{Ready, after, claimed, seeing, walked-leaf, walked-branch, names, heads, reading-all, names-slots, names-long}
 
 -- ---- the two ends

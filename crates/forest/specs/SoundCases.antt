@@ -8,7 +8,6 @@ use Rattle.rules.specs.Repair.{repair}
 use Rattle.rules.specs.declared.model.TabBarPlacement.{TabBarPlacement}
 use Rattle.rules.specs.declared.model.TabBarPlacement.TheVariants.{Hidden, Top, Bottom, Left, Right}
 use Rattle.forest.specs.Lists.{never}
-use Rattle.forest.specs.Grow.{nothing}
 use Rattle.forest.specs.Settled.{Lone, Settled}
 use Rattle.forest.specs.Quiet.{plain_nodes}
 use Rattle.forest.specs.SoundIs.{quiet-repair, sound-is}

@@ -1,6 +1,6 @@
 -- An arena is sound exactly when its repair is accepted and lists nothing, or it is a lone empty root: that the tree comes back equal then follows.
 -- And a sound arena, its minima's minus zeros read as zeros, is settled. Assumes nothing.
-use Rattle.std.specs.Prelude.{◌≡◌, Bool, not, ◌&&◌, ◌||◌, List, [], ◌∷◌, map, ℕ, ◌+◌, eqb, length, get_or, Float}
+use Rattle.std.specs.Prelude.{◌≡◌, Bool, ◌&&◌, ◌||◌, List, [], ◌∷◌, map, ℕ, ◌+◌, eqb, length, get_or, Float}
 use Rattle.std.proofs.Math.Path.{refl, sym, ap}
 use Rattle.std.proofs.Common.{subst, ◌∙◌, arith, ext_get_or}
 use Rattle.std.proofs.Math.Bool.{true, false}

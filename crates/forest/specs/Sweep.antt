@@ -3,18 +3,18 @@
 use Rattle.std.specs.Prelude.{◌≡◌, ◌≢◌, ◌⊎◌, Bool, true, false, ◌||◌, length, get_or, set}
 use Rattle.std.proofs.Math.Path.{refl, ap}
 use Rattle.std.proofs.Common.{sym, subst, ◌∙◌, inl, inr, length-set, get_or-set_same, get_or-set_other}
-use mathlib.Core.List.{List, [], ◌∷◌, ◌++◌}
-use Rattle.std.proofs.Math.Option.{Option, none, some}
-use Prim.Native.Nat.{ℕ, zero, suc, ◌+◌, ◌≤◌, ◌<◌}
+use mathlib.Core.List.{List, [], ◌∷◌}
+use Rattle.std.proofs.Math.Option.{some}
+use Prim.Native.Nat.{ℕ, suc, ◌+◌, ◌<◌}
 use native.Mathlib.Omega.{arith}
 use Rattle.std.proofs.Math.Decide.{ℕ_discrete}
 use Rattle.rules.specs.Tree.{Node, empty, tile, set_node, is_empty, empty_group, reading_from, Member}
-use Rattle.rules.specs.Repair.{State, Work, Out, is_reached, sweep_by, swept, sweep_note, sweep_actions, begin, normalize_node}
+use Rattle.rules.specs.Repair.{State, Out, is_reached, sweep_by, swept, sweep_note, sweep_actions, begin, normalize_node}
 use Rattle.rules.specs.declared.model.TileId.{TileId}
 use Rattle.rules.specs.declared.model.RepairAction.{RepairAction}
-use Rattle.forest.specs.Lists.{All, never, member-all, find, none-at}
+use Rattle.forest.specs.Lists.{All, member-all, find, none-at}
 use Rattle.forest.specs.Forest.{tiles}
-use Rattle.forest.specs.Grow.{Grown, Left, nothing, kept_of, stem, Keeps}
+use Rattle.forest.specs.Grow.{Grown, Left, nothing, kept_of, stem}
 use Rattle.forest.specs.Settled.{reached-in, reached-out, slots-are, slots, few, fresh-reads}
 
 -- ---- the sweep by flags

@@ -1,6 +1,6 @@
 -- A frame by value, read as the rule's. Definitions only.
 use Rattle.std.specs.Prelude.{map, take}
-use Rattle.rules.specs.Frame.{Frame, Laid}
+use Rattle.rules.specs.Frame.{Laid}
 use Rattle.rules.specs.declared.frame.FrameItemId.{FrameItemId}
 use Rattle.items.specs.declared.Painted.{Painted}
 use Rattle.frame.specs.declared.Layout.{Layout}

@@ -9,7 +9,7 @@ use Rattle.std.specs.Float.Ieee.{binary64, up, down, lt, le, eq, fits}
 use Rattle.std.specs.Float.Ieee.Fits.{and_i, and_l, and_r, cond-fits}
 use Rattle.std.specs.Float.Ieee.Scale.{finite}
 use Rattle.rules.specs.Numbers.{zero-f, plus, minimum_ok}
-use Rattle.rules.specs.Tree.{Node, empty, tabs, split, Arena, wide_node, reading_from, Member}
+use Rattle.rules.specs.Tree.{Node, empty, Arena, wide_node, reading_from, Member}
 use Rattle.rules.specs.Sound.{sound}
 use Rattle.rules.specs.Tabs.{major_size}
 use Rattle.rules.specs.Frame.{Item, focus_item, pane_item, bar_item, tab_item, child_item, handle_item, limit, minus-limit, coordinate_ok, thickness_ok, bounds_ok, size_ok, input_ok, plus_input, child_total, child_minima, split_lengths, child_of, gather, layout_items, layout_by, layout_input_by, layout, Frame, frame_of, pane_of, bar_of, tab_of, handle_of}

@@ -1,5 +1,5 @@
 -- Every number in a frame is finite: the edges of all its rectangles are bounded. Assumes nothing.
-use Rattle.std.specs.Prelude.{◌≡◌, refl, Bool, true, false, cond, [], ◌∷◌, ℕ, zero, suc, ◌+◌, ◌*◌, ◌^◌, ◌≤◌, ◌<◌, eqb, length, Float}
+use Rattle.std.specs.Prelude.{◌≡◌, refl, Bool, true, false, cond, [], ◌∷◌, ℕ, zero, suc, ◌+◌, ◌*◌, ◌^◌, ◌≤◌, ◌<◌, eqb, Float}
 use Rattle.std.proofs.Common.{sym, ap, ◌∙◌, le_trans, le_of_eq, mul-le-mul, mul-le-mul_right, mul-le-mul_left, one-mul, mul-one, mul_comm, mul_assoc, mul-pos, zero-mul, arith, eqb-true, pow-add, pow_mono}
 use Rattle.std.specs.Float.{nan, inf, fin, binary64}
 use Rattle.std.specs.Float.Ieee.{up, down, round, unlike, add, sub, mul, div, lt}

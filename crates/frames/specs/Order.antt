@@ -9,7 +9,7 @@ use Rattle.std.proofs.Math.Option.{some}
 use Prim.Native.Nat.{ℕ, zero, suc, ◌≤◌, min}
 use Rattle.std.proofs.Math.ListN.{length, length-map, get_or-map}
 use Rattle.std.specs.Float.Ieee.{binary64, add}
-use Rattle.rules.specs.Tree.{Node, empty, pane, tabs, split, Arena, arena, node_at, panes_of, kids_of, empty_group, same_placement, reading, reading_from}
+use Rattle.rules.specs.Tree.{Node, empty, pane, tabs, split, Arena, node_at, panes_of, kids_of, empty_group, same_placement, reading, reading_from}
 use Rattle.rules.specs.Target.{panes_in}
 use Rattle.rules.specs.Repair.{children_of, shares_of, minima_of}
 use Rattle.rules.specs.Minima.{compact_constraints}
@@ -26,7 +26,7 @@ use Rattle.rules.specs.declared.frame.PaneFrame.{PaneFrame}
 use Rattle.rules.specs.declared.frame.SplitChildFrame.{SplitChildFrame}
 use Rattle.rules.specs.declared.frame.SplitHandleFrame.{SplitHandleFrame}
 use Rattle.forest.specs.Codec.{stored}
-use Rattle.forest.specs.Forest.{Forest, nil, leaf, node, roots, tiles, Leafy, Holds}
+use Rattle.forest.specs.Forest.{Forest, nil, leaf, node, roots, Leafy, Holds}
 use Rattle.forest.specs.Grow.{Left, nothing, group, branch, kept_of, stem}
 use Rattle.forest.specs.Again.{names}
 use Rattle.forest.specs.Depth.{Within, nested-within}

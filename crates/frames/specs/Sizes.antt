@@ -1,6 +1,6 @@
 -- How large numbers get: a bound on a float's size, and what sums, differences and products make of it. A bound is c times a power of two, which
 -- binary64 holds, so rounding does not pass it. Assumes nothing.
-use Rattle.std.specs.Prelude.{◌≡◌, refl, Bool, not, ◌&&◌, cond, T, eqb, Float}
+use Rattle.std.specs.Prelude.{◌≡◌, refl, Bool, ◌&&◌, cond, T, eqb, Float}
 use Rattle.std.proofs.Common.{sym, ap, ◌∙◌, subst, le_trans, le_of_eq, lt_of_lt_of_le, mul-lt-mul_of_pos_right, mul-one, mul_assoc, mul_comm, mul-le-mul, mul-le-mul_right, add-le-add, add-mul, mul-pos, eqb→eq, pow-add, pow_pos, pow_mono}
 use Rattle.std.proofs.Math.Bool.{true, false}
 use Rattle.std.specs.Bool.{beq}
@@ -16,7 +16,7 @@ use Rattle.std.specs.Float.Ieee.Order.{round_mono}
 use Rattle.std.specs.Float.Ieee.Positive.{through}
 use Rattle.std.specs.Float.Ieee.Scale.{finite}
 use Rattle.rules.specs.Numbers.{zero-f, whole, larger}
-use Rattle.number.specs.Order.{nonneg, over, le→cross}
+use Rattle.number.specs.Order.{nonneg, le→cross}
 use Rattle.number.specs.Rounding.{round-nonneg}
 
 -- ---- the bound

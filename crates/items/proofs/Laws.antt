@@ -14,7 +14,7 @@ use Rattle.rules.specs.Frame.{Item, gather, pane_of, bar_of, tab_of, child_of, h
 use Rattle.rules.specs.Tree.{tile}
 use Rattle.rules.specs.declared.frame.FrameItemId.TheVariants.{SplitHandle}
 use Rattle.streaming.specs.Stream.{item_by, item_from, items_from, rect_from, flag_from}
-use Rattle.items.specs.Lists.{pane_from, bar_frame_from, tab_from, child_from, handle_from, painted, painted_by, Bin, bin, put_by, put, put_all, Sorted}
+use Rattle.items.specs.Lists.{pane_from, bar_frame_from, tab_from, child_from, handle_from, painted, painted_by, Bin, bin, put_by, put_all, Sorted}
 
 -- ---- a list filled
 

@@ -22,7 +22,7 @@ use Rattle.rules.specs.declared.model.Reals.{Reals}
 use Rattle.lists.specs.Places.{get_d-used}
 use Rattle.forest.specs.Lists.{All, never, free, free-set, all_get_d}
 use Rattle.forest.specs.Codec.{Least, start-least}
-use Rattle.forest.specs.Grow.{Good, tile-keeps, claimed}
+use Rattle.forest.specs.Grow.{Good, tile-keeps}
 use Rattle.forest.specs.Again.{tile-by}
 use Rattle.forest.specs.Wide.{Swollen, Bulging, Before, before-start, before_more, kids-bulge, kid-bulge, long-bulge, split-swells}
 use Rattle.sifting.specs.Work.{Cols, cols, Sized, Shows}

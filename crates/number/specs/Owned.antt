@@ -1,7 +1,6 @@
 -- What owning an array of f64, or a Reals, tells: its length, and that each element is a value of the format. Assumes nothing.
 use Rattle.std.specs.Prelude.{◌≡◌, List, [], ◌∷◌, map, T, length, Float}
 use Rattle.std.proofs.Common.{sym, subst}
-use Rattle.std.proofs.lemmas.List.{length-map}
 use Rattle.std.specs.Float.{binary64}
 use Rattle.std.specs.Float.Ieee.{fits}
 use mir.Val.{Val}

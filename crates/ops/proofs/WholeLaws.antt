@@ -9,7 +9,7 @@ use lib.ListN.{length, get_or}
 use Rattle.rules.specs.Lists.{any_of}
 use Rattle.rules.specs.Tree.{Arena, Node, tile, view, view_slot, over_slot}
 use Rattle.rules.specs.Sound.{sound}
-use Rattle.rules.specs.Operations.{refused, unchanged, changed, Applied, finish, apply_inner, apply_by, apply}
+use Rattle.rules.specs.Operations.{refused, unchanged, Applied, finish, apply_inner, apply_by, apply}
 use Rattle.rules.specs.declared.model.Slot.{Slot}
 use Rattle.rules.specs.declared.model.TileTree.{TileTree}
 use Rattle.rules.specs.declared.operation.TileOp.{TileOp}

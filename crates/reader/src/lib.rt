@@ -1,5 +1,5 @@
 // The table reader: a spec's bytes, as they are lent, and a place in them, kept together. It is taken apart at once, and the work is that of `cursor`,
-// whose parameters are a plain slice and a number. The borrow checker covers no function over such a struct, so each is proved by hand.
+// whose parameters are a plain slice and a number.
 #![tactic(auto)]
 
 pub mod bytes;
@@ -37,7 +37,7 @@ pub fn section<'a>(r: Reader<'a>) -> Found
     find_section(r.bytes, r.at)
 }
 
-// The section at a place of a plain slice, by a reader: a caller of this one is covered.
+// The section at a place of a plain slice, by a reader that is taken apart at once.
 pub fn section_at(b: &[u8], at: usize) -> Found
     ensures { SectionAt b.now at result }
 {

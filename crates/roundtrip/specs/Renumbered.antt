@@ -1,5 +1,5 @@
 -- The slots that have a forest's nodes in reading order hold the renumbered forest, and are narrow where the old ones were. Assumes nothing.
-use Rattle.std.specs.Prelude.{◌≡◌, Bool, false, ◌||◌, ℕ, zero, suc, ◌+◌, ◌-◌, ◌≤◌, ◌<◌, ltb, get_or}
+use Rattle.std.specs.Prelude.{◌≡◌, Bool, false, ◌||◌, ℕ, zero, suc, ◌+◌, ◌≤◌, ◌<◌, ltb, get_or}
 use Rattle.std.proofs.Math.Path.{refl, ap}
 use Rattle.std.proofs.Common.{sym, subst, ◌∙◌, arith, length-append, get_or-append-add}
 use mathlib.Core.List.{List, [], ◌∷◌, ◌++◌}

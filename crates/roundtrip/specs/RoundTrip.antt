@@ -27,7 +27,7 @@ use Rattle.accepted.specs.Sprout.{up_from, up-distinct}
 use Rattle.accepted.specs.Accepted.{no_more}
 use Rattle.roundtrip.specs.Write.{node_shares, node_minima, table_along, to_spec}
 use Rattle.roundtrip.specs.Written.{Numbers, order_is, one-root, written-reads, written-panes}
-use Rattle.roundtrip.specs.Passes.{before, rows, feed, passes}
+use Rattle.roundtrip.specs.Passes.{before, feed, passes}
 use Rattle.roundtrip.specs.Renumber.{renumber, same_count, nodes_for, nodes-count, grows}
 use Rattle.roundtrip.specs.Renumbered.{tiles-are, shown-same, holds-new, any-join, slim-new, rows-slim}
 

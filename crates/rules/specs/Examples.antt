@@ -1,10 +1,9 @@
 -- Document 01's marked examples, E1 to E12, as one table, and one statement: the rules, computed over all of it, give what it says.
 -- Numbers of the table are quarters where they need not be whole. Trees are compared slot by slot; lengths and rectangles bit by bit.
 -- Assumes nothing.
-use Rattle.std.specs.Prelude.{Bool, true, false, ◌&&◌, List, [], ◌∷◌, ◌++◌, map, ℕ, zero, suc, ◌-◌, pos, negsuc, T, eqb, length, replicate, Float}
-use Rattle.std.specs.Int.Count.{count_trailing_zeros}
+use Rattle.std.specs.Prelude.{Bool, true, false, ◌&&◌, List, [], ◌∷◌, ◌++◌, map, ℕ, ◌-◌, negsuc, T, eqb, length, replicate, Float}
 use Rattle.std.specs.Float.{fin, binary64}
-use Rattle.std.specs.Float.Ieee.{to_bits, add, sub, mul, div, lt, le, eq, neg, is_nan, of_int, round, sum, size, span, climb, units, odd}
+use Rattle.std.specs.Float.Ieee.{to_bits, add, sub, mul, div, lt, le, eq, neg, is_nan, of_int}
 use Rattle.rules.specs.Numbers.{zero-f, half-f, one-f, whole, hundredth}
 use Rattle.rules.specs.Lists.{all_of, any_of, same_list, insert_at, remove_at, position_from, tabulate}
 use Rattle.rules.specs.Tree.{Node, empty, pane, tabs, split, Arena, arena, tile, empty_from, reading, same_tree}
@@ -17,7 +16,7 @@ use Rattle.rules.specs.Sound.{sound}
 use Rattle.rules.specs.Target.{locate, seek_parent, panes_along, validate_target}
 use Rattle.rules.specs.Insert.{insert_tile_near}
 use Rattle.rules.specs.Operations.{Applied, apply_inner, apply}
-use Rattle.rules.specs.Frame.{Frame, Laid, input_ok, plus_input, tabs_from, layout_tabs, layout_kids, layout_split, layout_tile, gather, layout}
+use Rattle.rules.specs.Frame.{Laid, input_ok, plus_input, tabs_from, layout_tabs, layout_kids, layout_split, layout_tile, gather, layout}
 use Rattle.rules.specs.Refusals.{Told, told, answer_of}
 use Rattle.rules.specs.declared.model.Axis.TheVariants.{Horizontal, Vertical}
 use Rattle.rules.specs.declared.model.Placement.TheVariants.{Before, After}

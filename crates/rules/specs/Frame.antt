@@ -4,7 +4,7 @@
 -- tab and handle as it is made.
 -- The layout is for sound trees: there the Rust's `visiting` and its filter of children that exist pass over nothing, and a split has two children or more.
 -- Definitions only.
-use Rattle.std.specs.Prelude.{Bool, true, false, not, ◌&&◌, List, [], ◌∷◌, ◌++◌, map, ℕ, zero, suc, ◌-◌, min, pos, eqb, length, get_or, Float}
+use Rattle.std.specs.Prelude.{Bool, true, false, ◌&&◌, List, [], ◌∷◌, ◌++◌, map, ℕ, zero, suc, ◌-◌, min, pos, eqb, length, get_or, Float}
 use Rattle.std.specs.Float.{fin, binary64}
 use Rattle.std.specs.Float.Ieee.{add, sub, mul, le}
 use Rattle.rules.specs.Numbers.{zero-f, whole, larger, plus}
@@ -12,7 +12,7 @@ use Rattle.rules.specs.Tree.{Node, empty, pane, tabs, split, Arena, node_at, sam
 use Rattle.rules.specs.Shares.{repaired_shares}
 use Rattle.rules.specs.Minima.{split_min_major}
 use Rattle.rules.specs.Solver.{Lengths, solve_lengths_with_min}
-use Rattle.rules.specs.Tabs.{rect, width, height, major_size, major_length, Barred, split_tab_bar, tab_rects}
+use Rattle.rules.specs.Tabs.{rect, major_size, major_length, Barred, split_tab_bar, tab_rects}
 use Rattle.rules.specs.Sound.{sound}
 use Rattle.rules.specs.declared.model.TileId.{TileId}
 use Rattle.rules.specs.declared.model.Axis.{Axis}

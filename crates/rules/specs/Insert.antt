@@ -1,7 +1,7 @@
 -- Putting a tile beside another, and taking a pane out. From tree.rs, 651 to 719 (`insert_tile_near`), 721 to 741 (`remove_pane`),
 -- and document 01, 'Operations'.
 -- Definitions only.
-use Rattle.std.specs.Prelude.{Bool, true, false, not, ◌&&◌, cond, List, [], ◌∷◌, ℕ, zero, suc, ◌-◌, leb, ltb, eqb, length, get_or, set, Float}
+use Rattle.std.specs.Prelude.{Bool, true, false, ◌&&◌, cond, List, [], ◌∷◌, ℕ, suc, ◌-◌, leb, ltb, eqb, length, get_or, set, Float}
 use Rattle.std.proofs.Math.Option.{Option, none, some}
 use Rattle.std.specs.Float.{binary64}
 use Rattle.std.specs.Float.Ieee.{mul, sub}

@@ -1,6 +1,6 @@
 -- Exact lists, for the Rust's Vec: `insert`, `remove`, `position`, `contains`, `last`, iterators over indices.
 -- Definitions only.
-use Rattle.std.specs.Prelude.{Bool, true, false, not, ◌&&◌, ◌||◌, cond, List, [], ◌∷◌, ◌++◌, ℕ, zero, suc, eqb, ltb, length}
+use Rattle.std.specs.Prelude.{Bool, true, false, ◌&&◌, ◌||◌, List, [], ◌∷◌, ◌++◌, ℕ, zero, suc, eqb, ltb, length}
 use Rattle.std.proofs.Math.Option.{Option, none, some}
 
 -- `insert(p, x)`; past the end it is the end

@@ -1,7 +1,7 @@
 -- Numbers: IEEE 754 binary64 as lib.Ieee has it, and the few words that the rules say of it.
 -- From the Rust's uses of f64 (`max`, `min`, `is_finite`, casts of counts) and document 01: minus zero is read as zero ('The arena').
 -- Definitions only.
-use Rattle.std.specs.Prelude.{Bool, true, false, ◌&&◌, ◌||◌, cond, ℕ, pos, negsuc, Float}
+use Rattle.std.specs.Prelude.{Bool, false, ◌&&◌, ◌||◌, cond, ℕ, pos, negsuc, Float}
 use Rattle.std.specs.Float.{fin, binary64}
 use Rattle.std.specs.Float.Ieee.{div, lt, le, eq, is_nan, of_int}
 use Rattle.std.specs.Float.Ieee.Scale.{finite}

@@ -2,7 +2,7 @@
 -- `move_pane`, `reorder_tab`), 598 to 626 (`insert_tile_at_target`), and document 01, 'Operations', 'The arena' (slots taken) and 'Refusals' (order):
 -- 4, the Rust's own refusals in its order, 2, 3 at insertion, 11, 3 after repair.
 -- Definitions only.
-use Rattle.std.specs.Prelude.{Bool, true, false, not, cond, List, [], ◌∷◌, ℕ, zero, suc, min, leb, ltb, eqb, length, get_or, drop, Float}
+use Rattle.std.specs.Prelude.{Bool, true, false, cond, List, [], ◌∷◌, ℕ, suc, min, leb, ltb, eqb, length, get_or, drop, Float}
 use Rattle.std.proofs.Math.Option.{Option, none, some}
 use Rattle.std.proofs.Math.ListN.{get_elem?}
 use Rattle.rules.specs.Numbers.{half-f, is_valid_split_fraction}

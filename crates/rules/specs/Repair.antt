@@ -2,14 +2,14 @@
 -- `normalize_split`, `mark_reachable`), and document 01, 'Repair' and 'The arena'.
 -- The Rust's `visiting` has no part: a tile that is being visited is claimed. Fuel falls from tile to tile; where it is used up every slot is claimed.
 -- Definitions only.
-use Rattle.std.specs.Prelude.{Bool, true, false, not, ◌&&◌, ◌||◌, cond, List, [], ◌∷◌, ◌++◌, map, ℕ, zero, suc, leb, eqb, length, get_or, set, replicate, Float}
+use Rattle.std.specs.Prelude.{Bool, true, false, not, ◌&&◌, ◌||◌, List, [], ◌∷◌, ◌++◌, map, ℕ, zero, suc, leb, eqb, length, get_or, set, replicate, Float}
 use Rattle.std.proofs.Math.Option.{Option, none, some}
 use Rattle.std.proofs.Math.ListN.{get_elem?}
 use Rattle.std.specs.Float.{binary64}
 use Rattle.std.specs.Float.Ieee.{mul, eq}
 use Rattle.rules.specs.Numbers.{zero-f}
 use Rattle.rules.specs.Lists.{any_of, contains, position}
-use Rattle.rules.specs.Tree.{Node, empty, pane, tabs, split, Arena, arena, tile, node_at, set_node, clear_node, is_empty, empty_slots, empty_group, wide_node, reading_from, same_tile, same_axis}
+use Rattle.rules.specs.Tree.{Node, empty, pane, tabs, split, Arena, arena, tile, node_at, set_node, is_empty, empty_slots, empty_group, wide_node, reading_from, same_tile, same_axis}
 use Rattle.rules.specs.Shares.{repaired_shares, eq_reals}
 use Rattle.rules.specs.Minima.{aligned_constraints, compact_constraints}
 use Rattle.rules.specs.declared.model.TileId.{TileId}

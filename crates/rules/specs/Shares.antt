@@ -1,6 +1,6 @@
 -- Shares of a split. From util.rs, 204 to 222 (`repaired_shares`), with its flag and its second list; document 01, 'Repair'.
 -- Definitions only.
-use Rattle.std.specs.Prelude.{Bool, true, false, cond, List, [], ◌∷◌, map, ℕ, zero, suc, eqb, length, replicate, Float}
+use Rattle.std.specs.Prelude.{Bool, true, false, cond, List, map, ℕ, eqb, length, replicate, Float}
 use Rattle.std.specs.Float.Ieee.{eq}
 use Rattle.rules.specs.Numbers.{one-f, share_ok}
 use Rattle.rules.specs.Lists.{any_of, same_list}

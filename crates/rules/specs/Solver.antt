@@ -5,7 +5,7 @@
 -- Definitions only.
 use Rattle.std.specs.Prelude.{Bool, true, false, not, ◌&&◌, cond, List, [], ◌∷◌, map, ℕ, zero, suc, eqb, leb, length, Float}
 use Rattle.std.specs.Float.{binary64}
-use Rattle.std.specs.Float.Ieee.{add, sub, mul, div, lt, le, eq, of_int}
+use Rattle.std.specs.Float.Ieee.{add, sub, mul, div, lt, le, eq}
 use Rattle.rules.specs.Numbers.{zero-f, whole, larger, plus, minimum_ok, share_ok}
 use Rattle.rules.specs.Lists.{all_of}
 use Rattle.rules.specs.Tree.{reals}

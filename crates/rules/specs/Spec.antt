@@ -3,7 +3,7 @@
 -- in preorder, then 3 after repair.
 -- Rows stand in preorder, so the Rust's recursion over a spec is a walk along the rows, each taking its entries off the other sections.
 -- Definitions only.
-use Rattle.std.specs.Prelude.{Bool, true, false, not, ◌||◌, List, [], ◌∷◌, ◌++◌, ℕ, zero, suc, ◌+◌, ◌-◌, leb, ltb, eqb, length, get_or, take, drop, set, replicate, Float}
+use Rattle.std.specs.Prelude.{Bool, true, false, not, List, [], ◌∷◌, ◌++◌, ℕ, zero, suc, ◌-◌, leb, ltb, eqb, length, get_or, take, drop, set, replicate, Float}
 use Rattle.std.proofs.Math.Option.{Option, none, some}
 use Rattle.rules.specs.Numbers.{share_ok, minimum_ok}
 use Rattle.rules.specs.Lists.{any_of, contains, position}

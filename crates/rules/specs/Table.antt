@@ -1,6 +1,6 @@
 -- The spec table: bytes to rows, panes, shares and minima. From document 01, 'Spec bytes' (the Rust's TileSpec is recursive; this is its flat form).
 -- Definitions only.
-use Rattle.std.specs.Prelude.{Bool, true, false, ◌&&◌, List, [], ◌∷◌, map, ℕ, zero, suc, ◌+◌, ◌*◌, leb, eqb, length, get_or, take, drop, Float}
+use Rattle.std.specs.Prelude.{Bool, true, false, ◌&&◌, List, [], ◌∷◌, map, ℕ, zero, suc, ◌+◌, ◌*◌, leb, eqb, length, take, drop, Float}
 use Rattle.std.proofs.Math.Option.{Option, none, some}
 use Rattle.std.specs.Float.{binary64}
 use Rattle.std.specs.Float.Ieee.{of_bits}

@@ -1,7 +1,7 @@
 -- Rectangles, the tab bar and the tabs. From kurbo's Rect (`width`, `height`), util.rs, 9 to 93 (`split_tab_bar`, `tab_rects`) and 190 to 202
 -- (`major_size`, `major_length`); document 01, 'Solver and frame'.
 -- Definitions only.
-use Rattle.std.specs.Prelude.{Bool, true, false, cond, List, ℕ, suc, eqb, Float}
+use Rattle.std.specs.Prelude.{cond, List, ℕ, suc, eqb, Float}
 use Rattle.std.specs.Float.{binary64}
 use Rattle.std.specs.Float.Ieee.{add, sub, mul, div}
 use Rattle.rules.specs.Numbers.{zero-f, whole, smaller}

@@ -2,11 +2,11 @@
 -- 1126 to 1180 (`find_pane`, `find_parent`, `contains_pane`, `count_panes`), 88 to 92 (`PaneLocation`), and document 01, 'Operations'.
 -- The Rust pops tiles off `pending`, skipping those it has visited; in a sound tree each is reached once, so what it visits is the reading order.
 -- Definitions only.
-use Rattle.std.specs.Prelude.{Bool, true, false, not, List, [], ◌∷◌, ◌++◌, ℕ, eqb, Float}
+use Rattle.std.specs.Prelude.{Bool, true, false, List, [], ◌∷◌, ◌++◌, ℕ, eqb}
 use Rattle.std.proofs.Math.Option.{Option, none, some}
 use Rattle.rules.specs.Numbers.{is_valid_split_fraction}
 use Rattle.rules.specs.Lists.{position}
-use Rattle.rules.specs.Tree.{Node, empty, pane, tabs, split, Arena, node_at, kids_of, panes_of, is_empty, reading_from, same_tile}
+use Rattle.rules.specs.Tree.{Node, empty, pane, tabs, split, node_at, kids_of, panes_of, reading_from, same_tile}
 use Rattle.rules.specs.declared.model.TileId.{TileId}
 use Rattle.rules.specs.declared.operation.DockTarget.{DockTarget}
 use Rattle.rules.specs.declared.operation.DockTarget.TheVariants.{Root, Split, TabInto}

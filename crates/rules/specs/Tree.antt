@@ -1,9 +1,9 @@
 -- The arena as mathematics: what stands in a slot, with exact lists, and how a TileTree is read as one.
 -- From tree.rs, 27 to 37 and 410 to 431 (TileTree, NodeSlot, get_node, set_node, clear_node), and document 01, 'The arena'.
 -- Definitions only.
-use Rattle.std.specs.Prelude.{Bool, true, false, not, ◌&&◌, ◌||◌, cond, ◌≡◌, ◌⊎◌, List, [], ◌∷◌, ◌++◌, map, ℕ, zero, suc, ◌<◌, T, eqb, ltb, length, get_or, set, take, Float}
-use Rattle.rules.specs.Numbers.{plus, same_real}
-use Rattle.rules.specs.Lists.{any_of, all_of, same_list, wide_list}
+use Rattle.std.specs.Prelude.{Bool, true, false, not, ◌&&◌, ◌||◌, ◌≡◌, ◌⊎◌, List, [], ◌∷◌, ◌++◌, map, ℕ, zero, suc, ◌<◌, T, eqb, ltb, get_or, set, take, Float}
+use Rattle.rules.specs.Numbers.{same_real}
+use Rattle.rules.specs.Lists.{any_of, same_list, wide_list}
 use Rattle.rules.specs.declared.model.TileId.{TileId}
 use Rattle.rules.specs.declared.model.Ids.{Ids}
 use Rattle.rules.specs.declared.model.Tiles.{Tiles}

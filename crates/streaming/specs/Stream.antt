@@ -1,5 +1,5 @@
 -- The stream that the layout writes: for each item five numbers and a rectangle, in two arrays of 2,304 places. Definitions only.
-use Rattle.std.specs.Prelude.{◌≡◌, Bool, true, false, List, [], ◌∷◌, ℕ, zero, suc, ◌+◌, ltb, get_or, set, take, Float}
+use Rattle.std.specs.Prelude.{Bool, true, false, List, [], ◌∷◌, ℕ, zero, suc, ◌+◌, ltb, get_or, set, take, Float}
 use Rattle.std.specs.Float.{nan}
 use Rattle.rules.specs.Numbers.{zero-f}
 use Rattle.rules.specs.Tabs.{rect}

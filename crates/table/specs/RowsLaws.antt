@@ -1,5 +1,5 @@
 -- The walk along the rows is the rules' own test of a table, and the code's loop is that walk. Assumes nothing.
-use Rattle.std.specs.Prelude.{◌≡◌, refl, Bool, true, false, ◌&&◌, ℕ, zero, suc, ◌+◌, ◌-◌, ◌*◌, ◌<◌, length, get_or, take, drop}
+use Rattle.std.specs.Prelude.{◌≡◌, refl, Bool, true, false, ◌&&◌, ℕ, zero, suc, ◌+◌, ◌*◌, ◌<◌, length, get_or, take, drop}
 use Rattle.std.proofs.Common.{sym, ap, subst, ◌∙◌, le_of_suc-le-suc, mul-suc, add_comm, eqb-true, drop-drop}
 use mathlib.Core.List.{List, [], ◌∷◌, map}
 use Rattle.std.proofs.Math.Option.{Option, none, some}

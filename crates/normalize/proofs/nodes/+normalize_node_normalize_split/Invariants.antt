@@ -2,7 +2,6 @@
 use mathlib.Core.Path.{◌≡◌}
 use Prim.Native.Nat.{◌+◌, ◌-◌}
 use lib.ListN.{length}
-use Rattle.rules.specs.Tree.{ids}
 use Rattle.forest.specs.Lists.{free}
 use Rattle.sifting.specs.Work.{Cols, cols}
 use Rattle.melting.specs.Splits.{Long, kids_in}

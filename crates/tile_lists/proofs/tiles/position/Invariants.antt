@@ -1,7 +1,7 @@
 -- `tile_lists::tiles::position` passes one entry after another until one is the tile. Assumes nothing.
 use Prim.Native.Nat.{◌≤◌, ◌-◌}
 use lib.ListN.{take}
-use Rattle.rules.specs.Tree.{same_tile, tile}
+use Rattle.rules.specs.Tree.{same_tile}
 use Rattle.lists.specs.Find.{Passed}
 use Rattle.tile_lists.proofs.tiles.position.Given as goal
 
