@@ -93,8 +93,8 @@ module _ (a : Arena) (size : length a.nodes ≡ 64) (full : (i : ℕ) → is_emp
 
     -- ---- and put beside a tile
 
-    ground : (new : Node) → is_split new ≡ false → Ground a ms new
-    ground new e = record { size = size; full = full; whole = removed-long ns p l size; alike = removed-alike ns p l h; blank = removed-blank ns p l; leaf = e }
+    grounds : (new : Node) → is_split new ≡ false → Ground a ms new
+    grounds new e = record { size = size; full = full; whole = removed-long ns p l size; alike = removed-alike ns p l h; blank = removed-blank ns p l; leaf = e }
 
     beside-follows : (new : Node) → panes_of new ≡ p ∷ [] → (d : Draft) → Grafted a ms new d → Follows a Every NoOne d
     beside-follows new e d G =
@@ -118,7 +118,7 @@ module _ (a : Arena) (size : length a.nodes ≡ 64) (full : (i : ℕ) → is_emp
 
     beside-fate : (new : Node) → panes_of new ≡ p ∷ [] → is_split new ≡ false → (b : Beside) → Fate a size full O Every NoOne (put_near a new b (draft a.root ms))
     beside-fate new e f b =
-        grafts-fate a size full O Every NoOne ms new (ground new f) b (beside-follows new e) (put_near a new b (draft a.root ms)) (near-grafted a ms new (ground new f) b)
+        grafts-fate a size full O Every NoOne ms new (grounds new f) b (beside-follows new e) (put_near a new b (draft a.root ms)) (near-grafted a ms new (grounds new f) b)
 
     -- ---- or into a group
 
