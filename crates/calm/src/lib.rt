@@ -3,8 +3,8 @@
 #![tactic(auto)]
 
 pub mod leaves;
-pub mod lists;
 pub mod nodes;
+pub mod split_lists;
 pub mod whole;
 
 // Whether the walk goes on, and how many panes were seen.

@@ -7,7 +7,7 @@ ghost use Rattle.columns.specs.Columns.{axis_from, nodes_from};
 ghost use Rattle.calm.specs.Calm.{look, calm, calm_split};
 ghost use Rattle.calm.specs.Reads.{Grid, Reads};
 
-use crate::{Calm, leaves, lists};
+use crate::{Calm, leaves, split_lists};
 use melting::rows;
 
 // Whether repair would melt a child in, as it stands.
@@ -59,7 +59,7 @@ pub fn calm_node(
         return leaves::calm_pane(seen, n, h[2]);
     }
     if kind == 2 {
-        lists::measured(ids, shares, minima, i);
+        split_lists::measured(ids, shares, minima, i);
         return leaves::calm_group(seen, n, h, &ids[i]);
     }
     calm_split(heads, ids, shares, minima, claimed, seen, n, id, depth - 1)
@@ -82,8 +82,8 @@ fn calm_split(
     ensures { Reads (calm_split (calm depth (nodes_from heads.now ids.now shares.now minima.now)) (nodes_from heads.now ids.now shares.now minima.now) (axis_from (get_or (get_or heads.now id []) 1 0)) (map tile (take (get_or (get_or heads.now id []) 4 0) (get_or ids.now id []))) (take (get_or (get_or heads.now id []) 5 0) (get_or shares.now id [])) (take (get_or (get_or heads.now id []) 6 0) (get_or minima.now id [])) (look claimed.old (take n seen.old))) claimed.old n claimed.new seen.new result }
 {
     let i = id as usize;
-    lists::measured(ids, shares, minima, i);
-    if !lists::lists_calm(heads, shares, minima, i) {
+    split_lists::measured(ids, shares, minima, i);
+    if !split_lists::lists_calm(heads, shares, minima, i) {
         return leaves::stopped(n);
     }
     let mode = heads[i][1];
@@ -97,7 +97,7 @@ fn calm_split(
         if !w.ok {
             return leaves::stopped(w.seen);
         }
-        let minimum = lists::minimum_at(minima, i, least, j);
+        let minimum = split_lists::minimum_at(minima, i, least, j);
         if melts_in(heads, child, mode, minimum) {
             return leaves::stopped(w.seen);
         }

@@ -10,7 +10,7 @@ use std::io;
 use std::io::Read;
 use wire::threes::Numbers;
 
-mod lists;
+mod frame_lists;
 
 // A layout's input, and the place after it.
 #[derive(Clone, Copy)]
@@ -121,7 +121,7 @@ fn same_case(b: &[u8]) -> bool {
     if !same_stream(t, i, r) {
         return false;
     }
-    let seen = lists::frame(b, told.at, r);
+    let seen = frame_lists::frame(b, told.at, r);
     seen.ok & (seen.at == b.len())
 }
 

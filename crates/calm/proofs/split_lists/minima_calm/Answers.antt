@@ -1,4 +1,4 @@
--- `calm::lists::minima_calm`: minima need no mending where they are no more than the children, each is good, and the last is not zero. Assumes nothing.
+-- `calm::split_lists::minima_calm`: minima need no mending where they are no more than the children, each is good, and the last is not zero. Assumes nothing.
 use mathlib.Core.Path.{◌∙◌}
 use Prim.Native.Nat.{◌-◌, ◌<◌}
 use native.Mathlib.Nat.{pos_of_ne-zero}
@@ -7,7 +7,7 @@ use lib.ListN.{take, get_or}
 use lib.Seq.{length-take-le}
 use lib.Ieee.{nan, of_bits}
 use Rattle.calm.proofs.ListLaws.{minima-none, minima-many, minima-cut, minima-good, last-in}
-use Rattle.calm.proofs.lists.minima_calm.Goals as goal
+use Rattle.calm.proofs.split_lists.minima_calm.Goals as goal
 
 pub returns-then-n-eq0 : goal.returns-then-n-eq0
 returns-then-n-eq0 c =

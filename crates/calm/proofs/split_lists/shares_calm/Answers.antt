@@ -1,10 +1,10 @@
--- `calm::lists::shares_calm`: shares need no mending where there is one for each child and each is good. Assumes nothing.
+-- `calm::split_lists::shares_calm`: shares need no mending where there is one for each child and each is good. Assumes nothing.
 use mathlib.Core.Path.{◌∙◌}
 use native.Mathlib.Omega.{arith}
 use lib.ListN.{take}
 use lib.Seq.{length-take-le}
 use Rattle.calm.proofs.ListLaws.{shares-other, shares-good}
-use Rattle.calm.proofs.lists.shares_calm.Goals as goal
+use Rattle.calm.proofs.split_lists.shares_calm.Goals as goal
 
 pub returns-then-n-count : goal.returns-then-n-count
 returns-then-n-count c =

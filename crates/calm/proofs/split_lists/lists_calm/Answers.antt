@@ -1,8 +1,8 @@
--- `calm::lists::lists_calm`: the three tests, one by one. Assumes nothing.
+-- `calm::split_lists::lists_calm`: the three tests, one by one. Assumes nothing.
 use mathlib.Core.List.{[]}
 use lib.ListN.{take, get_or}
 use Rattle.calm.proofs.ListLaws.{few-children, shares-fail, minima-tell}
-use Rattle.calm.proofs.lists.lists_calm.Goals as goal
+use Rattle.calm.proofs.split_lists.lists_calm.Goals as goal
 
 pub returns-then-count-lt2 : goal.returns-then-count-lt2
 returns-then-count-lt2 c =

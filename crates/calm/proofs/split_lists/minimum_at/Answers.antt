@@ -1,4 +1,4 @@
--- `calm::lists::minimum_at` is the entry of the list, zero past its end. Assumes nothing.
+-- `calm::split_lists::minimum_at` is the entry of the list, zero past its end. Assumes nothing.
 use mathlib.Core.Path.{sym}
 use mathlib.Core.List.{[]}
 use native.Mathlib.Omega.{arith}
@@ -6,7 +6,7 @@ use lib.ListN.{take, get_or, length-take, get_or-eq_default}
 use lib.Ieee.{nan, of_bits}
 use Rattle.rules.specs.Numbers.{zero-f}
 use Rattle.calm.proofs.ListLaws.{in_take}
-use Rattle.calm.proofs.lists.minimum_at.Goals as goal
+use Rattle.calm.proofs.split_lists.minimum_at.Goals as goal
 
 pub returns-then-n-j : goal.returns-then-n-j
 unfolding of_bits
