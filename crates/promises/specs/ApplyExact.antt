@@ -2,12 +2,11 @@
 -- in document 01's order ('Refusals'). No other number is ever given. Assumes nothing.
 use Rattle.std.specs.Prelude.{◌≡◌, ◌↔◌, Bool, not, List, [], ◌∷◌, ℕ, T, ltb, leb, length}
 use Rattle.std.proofs.Math.Path.{refl}
-use Rattle.std.proofs.Common.{sym, ap, subst, ◌∙◌, arith}
+use Rattle.std.proofs.Common.{sym, ap, subst, arith}
 use Rattle.std.proofs.Math.Logic.{inl, inr}
 use Rattle.std.proofs.Math.Bool.{true, false}
 use Rattle.std.proofs.Math.Option.{Option, none, some}
-use Rattle.std.specs.Float.Ieee.Fits.{and_l, and_r}
-use Rattle.rules.specs.Lists.{any_of, all_of, contains}
+use Rattle.rules.specs.Lists.{any_of, contains}
 use Rattle.rules.specs.Tree.{Arena, empty_slots, wide_node, Member}
 use Rattle.rules.specs.Repair.{Normal, normalize}
 use Rattle.rules.specs.Sound.{sound}
@@ -21,10 +20,6 @@ use Rattle.promises.specs.StepNumbers.{step_told, step_number, own, inner-own}
 
 -- ---- numbers in lists
 
-T_true : (b : Bool) → T b → b ≡ true
-T_true true t = refl
-T_true false t = absurd t
-
 -- a number of the list is not one that the list has not
 pub unlike : (xs : List ℕ) (n k : ℕ) → Member n xs → n ≡ k → T (not (contains k xs)) → ⊥
 unlike xs n k m e t = go (contains k xs) ((contains-means k xs).1 (subst (λ (j : ℕ). Member j xs) e m)) t
@@ -35,7 +30,7 @@ unlike xs n k m e t = go (contains k xs) ((contains-means k xs).1 (subst (λ (j 
 
 -- ---- what follows a change: 2, 3, 11, 3
 
-abbrev late : List ℕ
+abbrev pub late : List ℕ
 late = 0 ∷ 2 ∷ 3 ∷ 11 ∷ []
 
 module _ (a : Arena) (c : Change) where
@@ -67,28 +62,7 @@ module _ (a : Arena) (c : Change) where
 abbrev pub numbers : List ℕ
 numbers = 0 ∷ 2 ∷ 3 ∷ 4 ∷ 6 ∷ 7 ∷ 8 ∷ 9 ∷ 10 ∷ 11 ∷ []
 
--- each of xs is one of ys: tested
-within : (xs ys : List ℕ) → T (all_of (λ x. contains x ys) xs) → (n : ℕ) → Member n xs → Member n ys
-unfolding all_of
-within [] ys t n m = absurd m
-within (x ∷ xs) ys t n (inl e) = (contains-means n ys).0 (ap (λ (k : ℕ). contains k ys) e ∙ T_true (contains x ys) (and_l (contains x ys) (all_of (λ x. contains x ys) xs) t))
-within (x ∷ xs) ys t n (inr m) = within xs ys (and_r (contains x ys) (all_of (λ x. contains x ys) xs) t) n m
-
 module _ (a : Arena) (op : TileOp) where
-  finish-numbers : (s : Step) → Member (step_number s) own → Member (number_of (finish a s).answer) numbers
-  unfolding all_of any_of
-  finish-numbers (refuse e) m = within own numbers tt (refusal_of e).number m
-  finish-numbers unchanged m = inl refl
-  finish-numbers (changed c) m = within late numbers tt (number_of (finish a (changed c)).answer) (changed-late a c)
-
-  pub apply-numbers : Member (number_of (apply a op).answer) numbers
-  unfolding apply
-  apply-numbers = go (sound a)
-    where
-      go : (b : Bool) → Member (number_of (apply_by b a op).answer) numbers
-      go true = finish-numbers (apply_inner a op) (inner-own a op)
-      go false = inr (inr (inr (inl refl)))
-
   -- ---- 4
 
   no-four : (s : Step) → Member (step_number s) own → number_of (finish a s).answer ≡ 4 → ⊥
