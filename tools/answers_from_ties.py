@@ -170,7 +170,7 @@ def turned_body(body, place, fn):
         body = re.sub(r"\(not-(?:true|false) [^\s()]+ " + step + r"\)", r"c,\1", body)
         body = re.sub(r"not-(?:true|false) [^\s()]+ " + step, r"c,\1", body)
         body = re.sub(r"(?<![\w.'-])" + step, r"(ap not c,\1)", body)
-    return body.replace("c,if-not", "c.if-not").replace("(ap not c.if-not", "(ap not c.if-not")
+    return body.replace("c,if-not", "c.if-not")
 
 
 def invariant(decl, loops, fn):

@@ -1,6 +1,6 @@
 // The stored answers as they come on a reader: eight bytes, how many cases there are, then each case's length in bytes and its body.
 // An error of the reader is handed on. It leaves the reader further on in the bytes that it had, and none of those changed.
-ghost use Rattle.std.specs.Prelude.{◌<◌, ◌≤◌, length, take, IfOk};
+ghost use Rattle.std.specs.Prelude.{◌≡◌, ◌<◌, ◌≤◌, length, take, IfOk};
 ghost use Rattle.std.specs.Io.KnownBytes.{Consumes, IsAtEnd};
 ghost use Rattle.wire.specs.Passing.{EndsWithBuffer, Passes};
 
@@ -69,6 +69,7 @@ pub fn skip_magic<R: Read>(input: &mut R) -> io::Result<usize>
 // After an error the buffer may hold the part of a body that came.
 pub fn body_in<R: Read>(input: &mut R, buf: &mut [u8]) -> io::Result<usize>
     ensures within { IfOk result (λ n. n ≤ length buf.new) }
+    ensures kept { length buf.new ≡ length buf.old }
     ensures body { IfOk result (λ n. EndsWithBuffer (R.remaining input.old) (R.remaining input.new) buf.new n) }
     ensures passes { Passes (R.remaining input.old) (R.remaining input.new) }
 {
