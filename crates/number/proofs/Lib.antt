@@ -1,4 +1,2 @@
 -- What the functions' proofs share.
-pub mod Tests
-pub mod Nan
-pub mod Read
+pub mod Eight

@@ -1,5 +1,5 @@
 // The few things that the Rust asks of an f64 (`is_finite`, `max`, `min`, casts of counts), and a number read from bytes.
-// Each is by comparison, so that what it answers at NaN, infinity and minus zero is what rules::specs::Numbers says.
+// What each answers at NaN, infinity and minus zero is what rules::specs::Numbers says.
 #![tactic(auto)]
 
 ghost use Rattle.std.specs.Prelude.{◌≡◌, ◌+◌, ◌≤◌, length, take, drop};
@@ -9,15 +9,17 @@ ghost use Rattle.std.specs.Float.Ieee.Scale.{finite};
 ghost use Rattle.rules.specs.Numbers as Rules;
 ghost use Rattle.number.specs.Bytes.{le_number};
 
-// The Rust's `x.is_finite()`: below plus infinity and above minus infinity, which a NaN is not.
+use std::num::f64_from_bits_with_nan;
+
+// The Rust's `x.is_finite()`.
 pub fn is_finite(x: f64) -> bool
     ensures { result ≡ finite x }
 {
-    let inf = f64::from_bits(0x7ff0_0000_0000_0000);
-    x < inf && -inf < x
+    x.is_finite()
 }
 
 // The Rust's `a.max(b)`. A NaN on the left gives b, as in the Rust; so does minus zero beside zero.
+// Kept: std's `max` leaves open which of two zeros it answers (its clause `value`), and `Rules.larger` says b.
 pub fn larger(a: f64, b: f64) -> f64
     ensures { result ≡ Rules.larger a b }
 {
@@ -25,6 +27,7 @@ pub fn larger(a: f64, b: f64) -> f64
 }
 
 // The Rust's `a.min(b)`.
+// Kept: std's `min` leaves open which of two zeros it answers, and `Rules.smaller` says a.
 pub fn smaller(a: f64, b: f64) -> f64
     ensures { result ≡ Rules.smaller a b }
 {
@@ -60,24 +63,14 @@ pub fn whole(n: usize) -> f64
     n as f64
 }
 
-fn wide(x: u8) -> u64
-    ensures { result ≡ x }
-{
-    x as u64
-}
-
-// The number that n bytes at a place spell, the least first: read from the last byte down.
+// The number that n bytes at a place spell, the least first: what is missing of eight are zeros.
 pub fn little(b: &[u8], at: usize, n: usize) -> u64
     requires { (n ≤ 8) × (at + n ≤ length b.now) }
     ensures { result ≡ le_number (take n (drop at b.now)) }
 {
-    let mut value = 0u64;
-    let mut i = n;
-    while 0 < i {
-        i -= 1;
-        value = value * 256 + wide(b[at + i]);
-    }
-    value
+    let mut bytes = [0u8; 8];
+    bytes[..n].copy_from_slice(&b[at..at + n]);
+    u64::from_le_bytes(bytes)
 }
 
 // The Rust's `u64::from_le_bytes` of eight bytes at a place.
@@ -88,18 +81,9 @@ pub fn word(b: &[u8], at: usize) -> u64
     little(b, at, 8)
 }
 
-// The Rust's `f64::from_bits`, for every pattern: any NaN's becomes the one NaN, which 0 / 0 is.
+// The Rust's `f64::from_bits`, for every pattern: any NaN's becomes the one NaN.
 pub fn decode(n: u64) -> f64
     ensures { result ≡ of_bits binary64 n }
 {
-    let exponent = n % 9223372036854775808 / 4503599627370496;
-    let fraction = n % 4503599627370496;
-    if exponent == 2047 {
-        if fraction == 0 {
-            return f64::from_bits(n);
-        }
-        let zero = 0.0;
-        return zero / zero;
-    }
-    f64::from_bits(n)
+    f64_from_bits_with_nan(n)
 }

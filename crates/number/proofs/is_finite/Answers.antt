@@ -1,16 +1,14 @@
--- `number::is_finite` meets its contract: the two comparisons with the infinities. Assumes nothing.
-use lib.Ieee.{neg, nan_bits, of_bits}
-use Rattle.number.proofs.Tests.{finite-yes, finite-no}
+-- `number::is_finite` meets its contract, by the kinds of floats. Assumes nothing.
+use Rattle.std.proofs.Common.{◌≡◌, refl, ◌∙◌}
+use Rattle.std.specs.Float.{Float, nan, inf, fin, float_is_finite}
+use Rattle.std.specs.Float.Ieee.Scale.{finite}
 use Rattle.number.proofs.is_finite.Goals as goal
 
-pub float_from_bits-inf : goal.float_from_bits-inf
-unfolding nan_bits
-float_from_bits-inf c = tt
+finite-is : (x : Float) → float_is_finite x ≡ finite x
+unfolding float_is_finite
+finite-is nan = refl
+finite-is (inf s) = refl
+finite-is (fin s m d) = refl
 
-pub returns-then-x-inf : goal.returns-then-x-inf
-unfolding of_bits neg
-returns-then-x-inf c = finite-yes c.args.x c.if-x-inf.true
-
-pub returns-else-x-inf : goal.returns-else-x-inf
-unfolding of_bits
-returns-else-x-inf c = finite-no c.args.x c.if-x-inf.false
+pub returns : goal.returns
+returns c = c.is_finite.ensures.value ∙ finite-is c.args.x
