@@ -9,13 +9,15 @@ use real_lists::reals;
 use rules::model::Reals;
 
 // A minimum as aligned_constraints keeps it; minus zero becomes zero (document 01's own).
+#[tactic(auto, unfolding(rules::specs::Minima::fix_minimum))]
 pub fn fix_minimum(minimum: f64) -> f64
     ensures { result ≡ fix_minimum minimum }
 {
     if number::minimum_ok(minimum) {
-        return number::plus_zero(minimum);
+        number::plus_zero(minimum)
+    } else {
+        0.0
     }
-    0.0
 }
 
 // aligned_constraints (tree.rs). A missing minimum is read as zero.
@@ -23,15 +25,10 @@ pub fn aligned_constraints(count: usize, minima: Reals) -> Reals
     requires { count ≤ 16 }
     ensures { IsReals result (aligned_constraints count (Tree.reals minima)) }
 {
-    let mut at = [0.0f64; 16];
-    let mut j = 0usize;
-    while j < count {
-        let mut minimum = 0.0f64;
-        if j < minima.len {
-            minimum = minima.at[j];
-        }
+    let mut at = [0.0; 16];
+    for j in 0..count {
+        let minimum = if j < minima.len { minima.at[j] } else { 0.0 };
         at[j] = fix_minimum(minimum);
-        j += 1;
     }
     Reals { at, len: count }
 }
@@ -41,16 +38,12 @@ fn kept(minima: Reals) -> usize
     requires { minima.len ≤ 16 }
     ensures { (result ≤ minima.len) × (take result (Tree.reals minima) ≡ compact_constraints (Tree.reals minima)) }
 {
-    let mut n = minima.len;
-    while 0 < n {
-        let end = n - 1;
-        let last = minima.at[end];
-        if last != 0.0 {
-            return n;
+    for n in (0..minima.len).rev() {
+        if minima.at[n] != 0.0 {
+            return n + 1;
         }
-        n -= 1;
     }
-    n
+    0
 }
 
 // compact_constraints (tree.rs)
@@ -68,9 +61,10 @@ pub fn least(fallback: f64, minimum: f64) -> f64
 {
     let plain = number::plus_zero(fallback);
     if number::minimum_ok(minimum) {
-        return number::larger(plain, number::plus_zero(minimum));
+        number::larger(plain, number::plus_zero(minimum))
+    } else {
+        plain
     }
-    plain
 }
 
 // The closure of split_min_major: the minimum of the child at j.
@@ -79,9 +73,10 @@ fn least_at(minima: Reals, fallback: f64, j: usize) -> f64
     ensures { result ≡ least_at (Tree.reals minima) fallback j }
 {
     if j < minima.len {
-        return least(fallback, reals::get(minima, j, 0.0));
+        least(fallback, minima.at[j])
+    } else {
+        number::plus_zero(fallback)
     }
-    number::plus_zero(fallback)
 }
 
 // split_min_major, where the default is good.
@@ -89,11 +84,9 @@ fn min_major(count: usize, minima: Reals, fallback: f64) -> Reals
     requires { (count ≤ 16) × (minima.len ≤ 16) }
     ensures { IsReals result (min_major count (Tree.reals minima) fallback) }
 {
-    let mut at = [0.0f64; 16];
-    let mut j = 0usize;
-    while j < count {
+    let mut at = [0.0; 16];
+    for j in 0..count {
         at[j] = least_at(minima, fallback, j);
-        j += 1;
     }
     Reals { at, len: count }
 }

@@ -1,6 +1,6 @@
 // Shares of a split, and split fractions.
-ghost use Rattle.std.specs.Prelude.{◌≡◌, map, ◌≤◌};
-ghost use Rattle.rules.specs.Lists.{any_of};
+ghost use Rattle.std.specs.Prelude.{◌≡◌, map, ◌≤◌, take};
+ghost use Rattle.std.specs.List.{list_any};
 ghost use Rattle.rules.specs.Numbers.{share_ok, is_valid_split_fraction};
 ghost use Rattle.rules.specs.Shares.{fix_share, repaired_shares, eq_reals};
 ghost use Rattle.rules.specs.Tree as Tree;
@@ -10,39 +10,34 @@ use real_lists::reals;
 use rules::model::Reals;
 
 // A share as repaired_shares keeps it: one that is not finite or not positive becomes 1.0.
+#[tactic(auto, unfolding(rules::specs::Shares::fix_share))]
 pub fn fix_share(share: f64) -> f64
     ensures { result ≡ fix_share share }
 {
-    if number::share_ok(share) {
-        return share;
-    }
-    1.0
+    if number::share_ok(share) { share } else { 1.0 }
 }
 
-// The second list of repaired_shares, and its flag: whether any share was good.
-#[derive(Clone, Copy)]
-struct Mended {
-    repaired: Reals,
-    valid: bool,
-}
-
-// The loop of repaired_shares.
-fn mend(shares: Reals) -> Mended
+// The flag of repaired_shares: whether any share was good.
+fn any_good(shares: Reals) -> bool
     requires { shares.len ≤ 16 }
-    ensures { IsReals result.repaired (map fix_share (Tree.reals shares)) × (result.valid ≡ any_of share_ok (Tree.reals shares)) }
+    ensures { result ≡ list_any share_ok (take shares.len shares.at) }
 {
-    let n = shares.len;
-    let mut at = [0.0f64; 16];
-    let mut valid = false;
-    let mut j = 0usize;
-    while j < n {
-        let share = shares.at[j];
-        valid = valid | number::share_ok(share);
-        at[j] = fix_share(share);
-        j += 1;
+    shares.at[..shares.len].iter().any(|x| number::share_ok(*x))
+}
+
+// The second list of repaired_shares.
+fn mended(shares: Reals) -> Reals
+    requires { shares.len ≤ 16 }
+    ensures { IsReals result (map fix_share (Tree.reals shares)) }
+{
+    let mut at = [0.0; 16];
+    for j in 0..shares.len {
+        at[j] = fix_share(shares.at[j]);
     }
-    let repaired = Reals { at, len: n };
-    Mended { repaired, valid }
+    Reals {
+        at,
+        len: shares.len,
+    }
 }
 
 // repaired_shares
@@ -50,15 +45,11 @@ pub fn repaired_shares(count: usize, shares: Reals) -> Reals
     requires { (count ≤ 16) × (shares.len ≤ 16) }
     ensures { IsReals result (repaired_shares count (Tree.reals shares)) }
 {
-    if shares.len != count {
-        return reals::repeat(count, 1.0);
+    if shares.len == count && any_good(shares) {
+        mended(shares)
+    } else {
+        reals::repeat(count, 1.0)
     }
-    let m = mend(shares);
-    if m.valid {
-        let repaired = m.repaired;
-        return repaired;
-    }
-    reals::repeat(count, 1.0)
 }
 
 // is_valid_split_fraction, whose first two tests are a share's: the one place that tests a split fraction.
@@ -73,18 +64,5 @@ pub fn eq_reals(a: Reals, b: Reals) -> bool
     requires { (a.len ≤ 16) × (b.len ≤ 16) }
     ensures { result ≡ eq_reals (Tree.reals a) (Tree.reals b) }
 {
-    let n = a.len;
-    if n != b.len {
-        return false;
-    }
-    let mut i = 0usize;
-    while i < n {
-        let x = a.at[i];
-        let y = b.at[i];
-        if x != y {
-            return false;
-        }
-        i += 1;
-    }
-    true
+    a.at[..a.len] == b.at[..b.len]
 }

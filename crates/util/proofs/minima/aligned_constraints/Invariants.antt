@@ -1,5 +1,4 @@
 -- `util::minima::aligned_constraints` fills a fresh list with mended minima. Assumes nothing.
-use Prim.Native.Nat.{◌-◌}
 use Rattle.rules.specs.Numbers.{zero-f}
 use Rattle.rules.specs.Tree.{reals}
 use Rattle.rules.specs.Minima.{aligned_constraints}
@@ -8,6 +7,3 @@ use Rattle.util.proofs.minima.aligned_constraints.Given as goal
 
 abbrev pub invariant-loop-j : goal.invariant-loop-j
 invariant-loop-j l = Building zero-f (aligned_constraints l.count (reals l.minima)) l.count l.j l.at
-
-abbrev pub decreases-loop-j : goal.decreases-loop-j
-decreases-loop-j l = l.count - l.j

@@ -1,14 +1,15 @@
 -- `util::minima::kept` passes zeros from the end. Assumes nothing.
-use mathlib.Core.Path.{◌≡◌, sym, ap, ◌∙◌}
+use mathlib.Core.Path.{◌≡◌, sym, ap, subst, ◌∙◌}
 use mathlib.Core.Bool.{true, false}
-use Prim.Native.Nat.{◌≤◌, ◌<◌, ◌-◌}
+use Prim.Native.Nat.{ℕ, ◌≤◌, ◌<◌, ◌-◌, ◌+◌}
 use native.Mathlib.Omega.{arith}
 use borrow.Author.Rules.{rules}
 use borrow.Author.Tests.{not-true, not-false}
-use lib.ListN.{length, get_or}
+use lib.ListN.{length, get_or, take}
 use lib.Ieee.{Float, of_bits, nan, eq, ne}
 use Rattle.rules.specs.Numbers.{zero-f}
 use Rattle.rules.specs.Tree.{reals}
+use Rattle.rules.specs.Minima.{compact_constraints}
 use Rattle.lists.specs.Places.{used-length, get_d-used}
 use Rattle.util.specs.Entries.{cutting-start, cutting-more, cutting-kept, cutting-none}
 use Rattle.util.proofs.minima.kept.Goals as goal
@@ -18,18 +19,20 @@ loop-n-init c =
     let m = c.args.minima in
     let s : length m.at ≡ 16 = search rules in
     let h : m.len ≤ length m.at = omega arith in
-    (omega arith, cutting-start (reals m) m.len (sym (used-length m.len m.at h)))
+    cutting-start (reals m) m.len (sym (used-length m.len m.at h))
 
-pub returns-then-last : goal.returns-then-last
+pub returns-then-minima-n : goal.returns-then-minima-n
 unfolding of_bits ne
-returns-then-last c =
+returns-then-minima-n c =
     let m = c.args.minima in
     let l = c.loop-n in
     let s : length m.at ≡ 16 = search rules in
     let h : l.n - 1 < m.len = omega (arith, c.loop-n-test.true) in
     let x : get_or m.at (l.n - 1) nan ≡ get_or (reals m) (l.n - 1) zero-f = get_d-used m.len m.at (l.n - 1) zero-f nan h (omega arith) in
-    let e : eq (get_or (reals m) (l.n - 1) zero-f) zero-f ≡ false = sym (ap (λ (x : Float). eq x zero-f) x) ∙ not-true _ c.if-last.true in
-    (l.invariant.0, cutting-kept (reals m) l.n c.loop-n-test.true e l.invariant.1)
+    let e : eq (get_or (reals m) (l.n - 1) zero-f) zero-f ≡ false = sym (ap (λ (x : Float). eq x zero-f) x) ∙ not-true _ c.if-minima-n.true in
+    let k : l.n ≡ l.n - 1 + 1 = omega (arith, c.loop-n-test.true) in
+    let P : ℕ → Type 0 = λ k. take k (reals m) ≡ compact_constraints (reals m) in
+    (omega arith, subst P k (cutting-kept (reals m) l.n c.loop-n-test.true e l.invariant))
 
 pub loop-n-preserved : goal.loop-n-preserved
 unfolding of_bits ne
@@ -39,10 +42,13 @@ loop-n-preserved c =
     let s : length m.at ≡ 16 = search rules in
     let h : l.n - 1 < m.len = omega (arith, c.loop-n-test.true) in
     let x : get_or m.at (l.n - 1) nan ≡ get_or (reals m) (l.n - 1) zero-f = get_d-used m.len m.at (l.n - 1) zero-f nan h (omega arith) in
-    let e : eq (get_or (reals m) (l.n - 1) zero-f) zero-f ≡ true = sym (ap (λ (x : Float). eq x zero-f) x) ∙ not-false _ c.if-last.false in
-    (omega arith, cutting-more (reals m) l.n c.loop-n-test.true e l.invariant.1)
+    let e : eq (get_or (reals m) (l.n - 1) zero-f) zero-f ≡ true = sym (ap (λ (x : Float). eq x zero-f) x) ∙ not-false _ c.if-minima-n.false in
+    cutting-more (reals m) l.n c.loop-n-test.true e l.invariant
 
 pub returns : goal.returns
 returns c =
+    let m = c.args.minima in
     let l = c.loop-n in
-    (l.invariant.0, cutting-none (reals c.args.minima) l.n c.loop-n-test.false l.invariant.1)
+    let e : l.n ≡ 0 = omega (arith, c.loop-n-test.false) in
+    let P : ℕ → Type 0 = λ k. take k (reals m) ≡ compact_constraints (reals m) in
+    (omega arith, subst P e (cutting-none (reals m) l.n c.loop-n-test.false l.invariant))

@@ -1,5 +1,4 @@
 -- `util::minima::min_major` fills a fresh list with each child's minimum. Assumes nothing.
-use Prim.Native.Nat.{◌-◌}
 use Rattle.rules.specs.Numbers.{zero-f}
 use Rattle.rules.specs.Tree.{reals}
 use Rattle.rules.specs.Minima.{min_major}
@@ -8,6 +7,3 @@ use Rattle.util.proofs.minima.min_major.Given as goal
 
 abbrev pub invariant-loop-j : goal.invariant-loop-j
 invariant-loop-j l = Building zero-f (min_major l.count (reals l.minima) l.fallback) l.count l.j l.at
-
-abbrev pub decreases-loop-j : goal.decreases-loop-j
-decreases-loop-j l = l.count - l.j

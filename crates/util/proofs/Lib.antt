@@ -1,0 +1,2 @@
+-- What the functions' proofs share.
+pub mod Words

@@ -1,0 +1,17 @@
+-- std's words for what a list holds are the rules' own. Assumes nothing.
+use Rattle.std.proofs.Common.{◌≡◌, refl, ap, Bool, ◌&&◌, ◌||◌, List, [], ◌∷◌}
+use Rattle.std.specs.List.{list_any}
+use lib.Pointwise.{pointwise}
+use Rattle.rules.specs.Lists.{any_of, same_list}
+
+pub any-is : {A : Type 0} (p : A → Bool) (xs : List A) → list_any p xs ≡ any_of p xs
+unfolding any_of
+any-is p [] = refl
+any-is p (x ∷ xs) = ap (λ (b : Bool). p x || b) (any-is p xs)
+
+pub same-is : {A : Type 0} (same : A → A → Bool) (xs ys : List A) → pointwise same xs ys ≡ same_list same xs ys
+unfolding same_list
+same-is same [] [] = refl
+same-is same [] (y ∷ ys) = refl
+same-is same (x ∷ xs) [] = refl
+same-is same (x ∷ xs) (y ∷ ys) = ap (λ (b : Bool). same x y && b) (same-is same xs ys)
