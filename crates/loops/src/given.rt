@@ -1,6 +1,6 @@
 // The public call's input, read in one loop, since the sums' additions wait for each other and the tests do not: the Rust's
 // `debug_assert!`s, its two sums, and the minima with minus zero as zero.
-ghost use Rattle.std.specs.Prelude.{◌≡◌, ◌≤◌, length};
+ghost use Rattle.std.specs.Prelude.{◌≤◌};
 ghost use Rattle.loops.specs.Given.{Reads};
 
 // Whether every share and minimum is good, and the Rust's `share_sum` and `min_total`.
@@ -14,7 +14,7 @@ pub struct Given {
 // A refused input is read to its end too: nothing waits for the tests. Each comparison has a flag of its own, since the compiler makes a dozen
 // instructions of `number::share_ok` in a loop, and three of a comparison.
 pub fn read_all(shares: &[f64; 16], minima: &[f64; 16], least: &mut [f64; 16], n: usize) -> Given
-    requires { (n ≤ 16) × (length shares.now ≡ 16) × (length minima.now ≡ 16) × (length least.old ≡ 16) }
+    requires { n ≤ 16 }
     ensures { Reads n shares.now minima.now least.new result }
 {
     let inf = f64::from_bits(0x7ff0_0000_0000_0000);
@@ -43,16 +43,4 @@ pub fn read_all(shares: &[f64; 16], minima: &[f64; 16], least: &mut [f64; 16], n
         shares: share_sum,
         minima: min_total,
     }
-}
-
-// The length of an array that is lent, which only one by value tells.
-fn places(xs: [f64; 16])
-    ensures { length xs ≡ 16 }
-{}
-
-pub fn sized(xs: &[f64; 16])
-    ensures { length xs.now ≡ 16 }
-{
-    let a = *xs;
-    places(a);
 }

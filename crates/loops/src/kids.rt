@@ -1,7 +1,7 @@
 // The children in the solver's work, four lists side by side: shares and minima, which are only read, lengths so far, and which are fixed at their minimum.
 ghost use Rattle.std.specs.Prelude.{◌≡◌, ◌≤◌, take};
 ghost use Rattle.rules.specs.Solver as Rules;
-ghost use Rattle.loops.specs.Columns.{kids_shown, Long, Worked, Tallied, Turned};
+ghost use Rattle.loops.specs.Columns.{kids_shown, Worked, Tallied, Turned};
 
 use rules::solving::Kid;
 
@@ -72,7 +72,7 @@ pub fn hold_all(
     fixed: &mut [bool; 16],
     n: usize,
 ) -> Held
-    requires { (n ≤ 16) × Long shares.now minima.now sizes.old fixed.old }
+    requires { n ≤ 16 }
     ensures { Worked Rules.pin n shares.now minima.now sizes.old fixed.old sizes.new fixed.new × Tallied (take n (kids_shown shares.now minima.now sizes.old fixed.old)) result }
 {
     let mut changed = false;
@@ -111,7 +111,7 @@ pub fn spread_all(
     room: f64,
     flex: f64,
 )
-    requires { (n ≤ 16) × Long shares.now minima.now sizes.old fixed.now }
+    requires { n ≤ 16 }
     ensures { Worked (Rules.spread room flex) n shares.now minima.now sizes.old fixed.now sizes.new fixed.now }
 {
     let mut i = 0usize;

@@ -5,7 +5,7 @@
 mod checks;
 mod passes;
 
-ghost use Rattle.std.specs.Prelude.{◌≡◌, ◌≤◌, ◌<◌, length, take};
+ghost use Rattle.std.specs.Prelude.{◌≡◌, ◌≤◌, ◌<◌, take};
 ghost use Rattle.rules.specs.Tree.{reals};
 ghost use Rattle.rules.specs.Solver.{sum_of, solve_lengths_with_min, view_solution};
 ghost use Rattle.rules.specs.Solver as Rules;
@@ -36,7 +36,7 @@ pub struct SolvedInto {
 
 // The Rust's case `min_total >= total`: parts by the minima; equal parts where they are all zero.
 fn tight(total: f64, least: f64, minima: &[f64; 16], n: usize, lengths: &mut [f64; 16])
-    requires { (n ≤ 16) × (length minima.now ≡ 16) }
+    requires { n ≤ 16 }
     ensures { Padded n (Rules.tight total least (take n minima.now)) lengths.new }
 {
     if 0.0 < least {
@@ -57,7 +57,9 @@ fn loose(
     n: usize,
     lengths: &mut [f64; 16],
 ) -> u64
-    requires { (0 < n) × (n ≤ 16) × (length shares.now ≡ 16) × (length minima.now ≡ 16) × (share_sum ≡ sum_of (take n shares.now)) }
+    requires some { 0 < n }
+    requires few { n ≤ 16 }
+    requires summed { share_sum ≡ sum_of (take n shares.now) }
     ensures { Shows (Rules.loose total least (begun total (take n shares.now) (take n minima.now))) n lengths.new result }
 {
     fills::parts(shares, n, total, share_sum, lengths);
@@ -77,7 +79,9 @@ fn solve_lent(
     n: usize,
     lengths: &mut [f64; 16],
 ) -> u64
-    requires { (n ≤ 16) × (length shares.now ≡ 16) × (length minima.now ≡ 16) × (share_sum ≡ sum_of (take n shares.now)) × (min_total ≡ sum_of (take n minima.now)) }
+    requires few { n ≤ 16 }
+    requires shares_summed { share_sum ≡ sum_of (take n shares.now) }
+    requires minima_summed { min_total ≡ sum_of (take n minima.now) }
     ensures { Shows (solve_lengths_with_min total (take n shares.now) (take n minima.now)) n lengths.new result }
 {
     if n == 0 {
@@ -137,8 +141,6 @@ pub fn solve_into(
     if !checks::counts_ok(total, share_count, minimum_count) {
         return refused();
     }
-    given::sized(shares);
-    given::sized(minima);
     let n = share_count;
     let mut least = [0.0; 16];
     let g = given::read_all(shares, minima, &mut least, n);

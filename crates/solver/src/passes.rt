@@ -1,6 +1,6 @@
 // The outer loop.
 ghost use Rattle.std.specs.Prelude.{◌≡◌, ◌≤◌, take, false};
-ghost use Rattle.loops.specs.Columns.{kids_shown, unfixed, Long};
+ghost use Rattle.loops.specs.Columns.{kids_shown, unfixed};
 ghost use Rattle.solver.specs.Lent.{Ran};
 ghost use Rattle.solver.specs.Loop.{all_fixed};
 
@@ -13,7 +13,8 @@ pub fn run(
     sizes: &mut [f64; 16],
     n: usize,
 ) -> u64
-    requires { (n ≤ 16) × Long shares.now minima.now sizes.old unfixed × (all_fixed (take n (kids_shown shares.now minima.now sizes.old unfixed)) ≡ false) }
+    requires few { n ≤ 16 }
+    requires flexible { all_fixed (take n (kids_shown shares.now minima.now sizes.old unfixed)) ≡ false }
     ensures { Ran total n shares.now minima.now sizes.old sizes.new result }
 {
     let mut fixed = [false; 16];

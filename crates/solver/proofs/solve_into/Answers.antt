@@ -1,5 +1,4 @@
 -- `solve_into` meets its contract: refused where the input is bad, and else the lengths of the input read with minus zero as zero. Assumes nothing.
-use borrow.Author.Rules.{rules}
 use lib.ListN.{take}
 use Rattle.solver.specs.Call.{reals_of}
 use Rattle.solver.proofs.Solves.{counts-few, ok-counts, into-refused, read-refused, read-accepted}
@@ -16,7 +15,7 @@ returns-then-not-counts_ok c =
 pub read_all-g-requires : goal.read_all-g-requires
 read_all-g-requires c =
     let a = c.args in
-    ((counts-few a.share_count a.minimum_count a.total c.counts_ok.result c.counts_ok.ensures (ap not c.if-not-counts_ok.false)).0, c.sized.ensures, c.sized-2.ensures, search rules)
+    (counts-few a.share_count a.minimum_count a.total c.counts_ok.result c.counts_ok.ensures (ap not c.if-not-counts_ok.false)).0
 
 pub returns-then-not-g : goal.returns-then-not-g
 returns-then-not-g c =
@@ -26,7 +25,11 @@ returns-then-not-g c =
 pub solve_lent-passes-requires : goal.solve_lent-passes-requires
 solve_lent-passes-requires c =
     let a = c.args in
-    ((counts-few a.share_count a.minimum_count a.total c.counts_ok.result c.counts_ok.ensures (ap not c.if-not-counts_ok.false)).0, c.sized.ensures, c.read_all-g.ensures.long, c.read_all-g.ensures.shares, c.read_all-g.ensures.minima)
+    record {
+      few = (counts-few a.share_count a.minimum_count a.total c.counts_ok.result c.counts_ok.ensures (ap not c.if-not-counts_ok.false)).0;
+      shares_summed = c.read_all-g.ensures.shares;
+      minima_summed = c.read_all-g.ensures.minima;
+    }
 
 pub returns : goal.returns
 returns c =

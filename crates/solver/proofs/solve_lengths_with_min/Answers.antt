@@ -1,15 +1,10 @@
 -- `solve_lengths_with_min` meets its contract: `solve_lent` of both lists. Assumes nothing.
 use mathlib.Core.Path.{refl, sym, ap, ◌∙◌}
 use Prim.Native.Nat.{ℕ}
-use borrow.Author.Rules.{rules}
 use lib.ListN.{take}
 use Rattle.rules.specs.Tree.{reals}
 use Rattle.rules.specs.Solver.{solve_lengths_with_min}
 use Rattle.solver.proofs.solve_lengths_with_min.Goals as goal
-
-pub solve_lent-passes-requires : goal.solve_lent-passes-requires
-solve_lent-passes-requires c =
-    (c.requires.0, search rules, search rules, c.sum-share_sum.ensures, c.sum-min_total.ensures)
 
 pub returns : goal.returns
 returns c =

@@ -29,10 +29,10 @@ returns-then-total c =
     let n = a.n in
     let ss = take n a.shares.now in
     let ms = take n a.minima.now in
-    let ls : length ss ≡ n = length-take-le n a.shares.now (omega (arith, c.requires.0, c.requires.1)) in
+    let ls : length ss ≡ n = length-take-le n a.shares.now (omega arith) in
     let some : 0 < length ss = omega (arith, ls, c.if-n-eq0.false) in
-    let lm : length ms ≡ n = length-take-le n a.minima.now (omega (arith, c.requires.0, c.requires.2)) in
-    shows zeros (replicate n zero-f) n 0 (solve_lengths_with_min a.total ss ms) (padded-zeros n c.requires.0) (ap still (same-for zero-f n ms lm) ∙ solve-zero a.total ss ms some c.if-total.true)
+    let lm : length ms ≡ n = length-take-le n a.minima.now (omega arith) in
+    shows zeros (replicate n zero-f) n 0 (solve_lengths_with_min a.total ss ms) (padded-zeros n c.requires.few) (ap still (same-for zero-f n ms lm) ∙ solve-zero a.total ss ms some c.if-total.true)
 
 pub returns-then-total-min_total : goal.returns-then-total-min_total
 unfolding of_bits
@@ -41,9 +41,9 @@ returns-then-total-min_total c =
     let n = a.n in
     let ss = take n a.shares.now in
     let ms = take n a.minima.now in
-    let ls : length ss ≡ n = length-take-le n a.shares.now (omega (arith, c.requires.0, c.requires.1)) in
+    let ls : length ss ≡ n = length-take-le n a.shares.now (omega arith) in
     let some : 0 < length ss = omega (arith, ls, c.if-n-eq0.false) in
-    shows _ (tight a.total a.min_total ms) n 0 (solve_lengths_with_min a.total ss ms) c.tight.ensures (solve-tight a.total ss ms some a.min_total c.requires.4 c.if-total.false c.if-total-min_total.true)
+    shows _ (tight a.total a.min_total ms) n 0 (solve_lengths_with_min a.total ss ms) c.tight.ensures (solve-tight a.total ss ms some a.min_total c.requires.minima_summed c.if-total.false c.if-total-min_total.true)
 
 pub returns : goal.returns
 unfolding of_bits
@@ -52,6 +52,6 @@ returns c =
     let n = a.n in
     let ss = take n a.shares.now in
     let ms = take n a.minima.now in
-    let ls : length ss ≡ n = length-take-le n a.shares.now (omega (arith, c.requires.0, c.requires.1)) in
+    let ls : length ss ≡ n = length-take-le n a.shares.now (omega arith) in
     let some : 0 < length ss = omega (arith, ls, c.if-n-eq0.false) in
-    shows-as (solve-loose a.total ss ms some a.min_total c.requires.4 c.if-total.false c.if-total-min_total.false) c.loose.ensures
+    shows-as (solve-loose a.total ss ms some a.min_total c.requires.minima_summed c.if-total.false c.if-total-min_total.false) c.loose.ensures

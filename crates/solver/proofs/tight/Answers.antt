@@ -17,5 +17,5 @@ pub returns : goal.returns
 unfolding of_bits
 returns c =
     let a = c.args in
-    let l : length (take a.n a.minima.now) ≡ a.n = length-take-le a.n a.minima.now (omega (arith, c.requires.0, c.requires.1)) in
+    let l : length (take a.n a.minima.now) ≡ a.n = length-take-le a.n a.minima.now (omega arith) in
     tight-even a.total a.least a.n (take a.n a.minima.now) _ c.if-least.false l c.whole.result c.whole.ensures c.even.ensures

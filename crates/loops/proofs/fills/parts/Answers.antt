@@ -22,7 +22,7 @@ pub loop-i-preserved : goal.loop-i-preserved
 loop-i-preserved c =
     let a = c.args in
     let i = c.loop-i.i in
-    let h : i < length a.xs.now = omega (arith, c.requires.1) in
+    let h : i < length a.xs.now = omega (arith) in
     let k : i < length zeros = omega (arith, zeros-long) in
     (omega arith, filled-step (λ (j : ℕ). map (λ (x : Float). part a.total x a.whole) (take j a.xs.now)) zeros c.loop-i.lengths i (part a.total (get_or a.xs.now i nan) a.whole) k (map_more (λ (x : Float). part a.total x a.whole) a.xs.now i nan h) c.loop-i.invariant.1)
 

@@ -1,4 +1,5 @@
 -- `given::read_all` meets its contract: the first i are read. Assumes nothing.
+use borrow.Author.Rules.{rules}
 use lib.Ieee.{nan_bits, of_bits}
 use Rattle.loops.proofs.Reading.{reading-start, reading-on, reading-end}
 use Rattle.loops.proofs.given.read_all.Goals as goal
@@ -15,10 +16,10 @@ pub loop-i-preserved : goal.loop-i-preserved
 unfolding of_bits
 loop-i-preserved c =
     let a = c.args in
-    reading-on a.n a.shares.now a.minima.now a.least.now c.requires.0 c.requires.1 c.requires.2 c.requires.3 c.loop-i.least c.loop-i.share_above c.loop-i.share_below c.loop-i.minimum_above c.loop-i.minimum_below c.loop-i.share_sum c.loop-i.min_total c.loop-i.i c.loop-i.invariant
+    reading-on a.n a.shares.now a.minima.now a.least.now c.requires (search rules) (search rules) (search rules) c.loop-i.least c.loop-i.share_above c.loop-i.share_below c.loop-i.minimum_above c.loop-i.minimum_below c.loop-i.share_sum c.loop-i.min_total c.loop-i.i c.loop-i.invariant
     c.loop-i-test.true c.plus_zero-plain.result c.plus_zero-plain.ensures
 
 pub returns : goal.returns
 returns c =
     let a = c.args in
-    reading-end a.n a.shares.now a.minima.now a.least.now c.requires.0 c.requires.1 c.requires.2 c.requires.3 c.loop-i.least c.loop-i.share_above c.loop-i.share_below c.loop-i.minimum_above c.loop-i.minimum_below c.loop-i.share_sum c.loop-i.min_total c.loop-i.i c.loop-i.invariant c.loop-i-test.false
+    reading-end a.n a.shares.now a.minima.now a.least.now c.requires (search rules) (search rules) (search rules) c.loop-i.least c.loop-i.share_above c.loop-i.share_below c.loop-i.minimum_above c.loop-i.minimum_below c.loop-i.share_sum c.loop-i.min_total c.loop-i.i c.loop-i.invariant c.loop-i-test.false

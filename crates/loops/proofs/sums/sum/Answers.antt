@@ -1,26 +1,19 @@
--- `sums::sum` meets its contract: the loop has added the first i. Assumes nothing.
-use mathlib.Core.Path.{refl}
-use mathlib.Core.Bool.{true}
-use Prim.Native.Nat.{◌≤◌}
-use native.Mathlib.Omega.{arith}
-use lib.ListN.{length}
-use lib.Ieee.{Float, nan, of_bits}
+-- `sums::sum` adds one more at each step of std's fold. Assumes nothing.
+use Rattle.std.proofs.Common.{◌≡◌, ◌∙◌, refl, sym, ap, List, rules}
+use Rattle.std.proofs.lemmas.Fn.{fold_over, slice_gives, fronts}
+use Rattle.std.specs.Float.{Float, binary64}
+use Rattle.std.specs.Float.Ieee.{add, of_bits}
 use Rattle.rules.specs.Numbers.{zero-f}
-use Rattle.loops.proofs.Loops.{summed-step, summed-end}
+use Rattle.rules.specs.Solver.{sum_of, sum_by}
+use Rattle.loops.proofs.Words.{sum-one}
 use Rattle.loops.proofs.sums.sum.Goals as goal
 
-pub loop-i-init : goal.loop-i-init
-unfolding of_bits
-loop-i-init c = (omega arith, refl)
-
-pub loop-i-preserved : goal.loop-i-preserved
-loop-i-preserved c =
-    let a = c.args in
-    let h : a.n ≤ length a.xs.now = omega (arith, c.requires.1) in
-    (omega arith, summed-step (λ (x : Float). true) (λ (x : Float). x) zero-f a.xs.now a.n c.loop-i.i c.loop-i.t nan c.loop-i-test.true h c.loop-i.invariant.1)
-
 pub returns : goal.returns
+unfolding of_bits sum_by
 returns c =
-    let a = c.args in
-    let h : a.n ≤ length a.xs.now = omega arith in
-    summed-end (λ (x : Float). true) (λ (x : Float). x) zero-f a.xs.now a.n c.loop-i.i c.loop-i.t c.loop-i-test.false c.loop-i.invariant.0 h c.loop-i.invariant.1
+    let P : List Float → Float → Type 0 = λ ys t. t ≡ sum_of ys in
+    fold_over fronts (λ y. y.now) _ P _ (λ ys t x r f k e.
+    let h : r ≡ add binary64 t x.now = search rules in
+    (h ∙ ap (λ (u : Float). add binary64 u x.now) k ∙ sym (sum-one zero-f ys x.now), search rules))
+    c.iter.result _ _ _ (slice_gives c.iter.result) refl c.fold.ensures.ran
+    ∙ ap sum_of c.iter.ensures.rest

@@ -1,13 +1,15 @@
 -- `passes::run` meets its contract: the invariant says what is left to run, and that the count stays small. Assumes nothing.
+use mathlib.Core.Path.{refl}
 use lib.Ieee.{of_bits}
+use Rattle.loops.specs.Columns.{Long, unfixed}
 use Rattle.solver.proofs.Runs.{running-start, running-on, ended-none, ended-flex, ended-out}
 use Rattle.solver.proofs.passes.run.Goals as goal
 
 pub loop-left-init : goal.loop-left-init
-loop-left-init c = let a = c.args in running-start a.total a.n a.shares.now a.minima.now a.sizes.now c.requires.0 c.requires.1 c.requires.2
-
-pub hold_all-turn-requires : goal.hold_all-turn-requires
-hold_all-turn-requires c = (c.requires.0, c.loop-left.invariant.long)
+loop-left-init c =
+    let a = c.args in
+    let l : Long a.shares.now a.minima.now a.sizes.now unfixed = record { shares = c.told-shares; minima = c.told-minima; sizes = c.told-sizes; fixed = refl } in
+    running-start a.total a.n a.shares.now a.minima.now a.sizes.now c.requires.few l c.requires.flexible
 
 pub returns-then-not-turn : goal.returns-then-not-turn
 returns-then-not-turn c =
@@ -21,10 +23,6 @@ returns-then-turn c =
     let a = c.args in
     let k = c.hold_all-turn in
     ended-flex a.total a.n a.shares.now a.minima.now a.sizes.now c.loop-left.sizes c.loop-left.fixed c.loop-left.passes c.loop-left.left c.loop-left.invariant c.loop-left-test.true k.new.sizes k.new.fixed k.result k.ensures.0 k.ensures.1 c.if-turn.true
-
-pub spread_all-requires : goal.spread_all-requires
-spread_all-requires c =
-    (c.requires.0, c.hold_all-turn.ensures.0.long)
 
 pub loop-left-preserved : goal.loop-left-preserved
 unfolding of_bits
