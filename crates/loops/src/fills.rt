@@ -18,10 +18,7 @@ pub fn parts(xs: &[f64; 16], n: usize, total: f64, whole: f64, lengths: &mut [f6
     ensures { Padded n (map (λ x. part total x whole) (take n xs.now)) lengths.new }
 {
     *lengths = [0.0; 16];
-    let mut i = 0usize;
-    while i < n {
-        let x = xs[i];
-        lengths[i] = total * (x / whole);
-        i += 1;
+    for i in 0..n {
+        lengths[i] = total * (xs[i] / whole);
     }
 }

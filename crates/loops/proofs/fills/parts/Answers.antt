@@ -13,7 +13,7 @@ pub loop-i-init : goal.loop-i-init
 unfolding of_bits
 loop-i-init c =
     let a = c.args in
-    (omega arith, filled-start (λ (j : ℕ). map (λ (x : Float). part a.total x a.whole) (take j a.xs.now)) zeros refl)
+    filled-start (λ (j : ℕ). map (λ (x : Float). part a.total x a.whole) (take j a.xs.now)) zeros refl
 
 pub bounds-lengths-i : goal.bounds-lengths-i
 bounds-lengths-i c = omega (arith, zeros-long)
@@ -24,9 +24,9 @@ loop-i-preserved c =
     let i = c.loop-i.i in
     let h : i < length a.xs.now = omega (arith) in
     let k : i < length zeros = omega (arith, zeros-long) in
-    (omega arith, filled-step (λ (j : ℕ). map (λ (x : Float). part a.total x a.whole) (take j a.xs.now)) zeros c.loop-i.lengths i (part a.total (get_or a.xs.now i nan) a.whole) k (map_more (λ (x : Float). part a.total x a.whole) a.xs.now i nan h) c.loop-i.invariant.1)
+    filled-step (λ (j : ℕ). map (λ (x : Float). part a.total x a.whole) (take j a.xs.now)) zeros c.loop-i.lengths i (part a.total (get_or a.xs.now i nan) a.whole) k (map_more (λ (x : Float). part a.total x a.whole) a.xs.now i nan h) c.loop-i.invariant
 
 pub returns : goal.returns
 returns c =
     let a = c.args in
-    padded-end (λ (j : ℕ). map (λ (x : Float). part a.total x a.whole) (take j a.xs.now)) c.loop-i.lengths a.n c.loop-i.i c.loop-i-test.false c.loop-i.invariant.0 c.loop-i.invariant.1
+    padded-end (λ (j : ℕ). map (λ (x : Float). part a.total x a.whole) (take j a.xs.now)) c.loop-i.lengths a.n c.loop-i.i c.loop-i-test.false (omega arith) c.loop-i.invariant
