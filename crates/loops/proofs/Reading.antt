@@ -9,6 +9,7 @@ use lib.Ieee.{Float, nan, inf, fin, binary64, add, lt, le}
 use Rattle.rules.specs.Numbers.{zero-f, plus, minimum_ok, share_ok}
 use Rattle.rules.specs.Lists.{all_of}
 use Rattle.rules.specs.Solver.{sum_of}
+use Rattle.std.specs.Prelude.{Some, None}
 use Rattle.loops.specs.Given.{Reads}
 use Rattle.loops.proofs.Loops.{sum-map, Summed, summed-step, summed-end, Kept, kept_step, kept-end}
 use Rattle.loops.proofs.Filling.{Filled, filled-start, filled-step, filled-end, map_more}
@@ -81,17 +82,30 @@ module _ (n : ℕ) (ss ms ls₀ : List Float) where
               (map_more plus ms i nan (omega arith) ∙ ap (λ (x : Float). map plus (take i ms) ++ (x ∷ [])) (sym is-p)) r.plain;
         }
 
-    pub reading-end : n ≤ i → Reads n ss ms ls (record { fine = sa && sb && (ma && mb); shares = sum; minima = least })
-    reading-end h =
+    reading-tests : n ≤ i → (sa && sb && (ma && mb)) ≡ all_of share_ok (take n ss) && all_of minimum_ok (take n ms)
+    reading-tests h =
         let k : n ≤ length ss = omega arith in
         let g : n ≤ length ms = omega arith in
         let share-all : (sa && sb) ≡ (all_of positive (take n ss) && all_of bounded (take n ss)) = λ z. kept-end positive ss n i sa h r.few k r.share-above z && kept-end bounded ss n i sb h r.few k r.share-below z in
         let minimum-all : (ma && mb) ≡ (all_of not_negative (take n ms) && all_of bounded (take n ms)) = λ z. kept-end not_negative ms n i ma h r.few g r.minimum-above z && kept-end bounded ms n i mb h r.few g r.minimum-below z in
-        let e : take n ls ≡ map plus (take n ms) = filled-end (λ (j : ℕ). map plus (take j ms)) ls₀ ls n i h r.few r.plain in
+        λ z. (share-all ∙ both_of positive bounded share_ok share-is (take n ss)) z && (minimum-all ∙ both_of not_negative bounded minimum_ok minimum-is (take n ms)) z
+
+    reading-plain : n ≤ i → take n ls ≡ map plus (take n ms)
+    reading-plain h = filled-end (λ (j : ℕ). map plus (take j ms)) ls₀ ls n i h r.few r.plain
+
+    pub reading-good : n ≤ i → (sa && sb && (ma && mb)) ≡ true → Reads n ss ms ls (Some (record { shares = sum; minima = least }))
+    reading-good h good =
+        let k : n ≤ length ss = omega arith in
+        let g : n ≤ length ms = omega arith in
         record {
-          fine = λ z. (share-all ∙ both_of positive bounded share_ok share-is (take n ss)) z && (minimum-all ∙ both_of not_negative bounded minimum_ok minimum-is (take n ms)) z;
-          shares = summed-end (λ (x : Float). true) (λ (x : Float). x) zero-f ss n i sum h r.few k r.shares;
-          minima = summed-end (λ (x : Float). true) plus zero-f ms n i least h r.few g r.minima ∙ sum-map (λ (x : Float). true) (λ (x : Float). x) plus zero-f (take n ms) ∙ ap sum_of (sym e);
-          plain = e;
+          fine = sym good ∙ reading-tests h;
+          sums = record {
+            shares = summed-end (λ (x : Float). true) (λ (x : Float). x) zero-f ss n i sum h r.few k r.shares;
+            minima = summed-end (λ (x : Float). true) plus zero-f ms n i least h r.few g r.minima ∙ sum-map (λ (x : Float). true) (λ (x : Float). x) plus zero-f (take n ms) ∙ ap sum_of (sym (reading-plain h));
+          };
+          plain = reading-plain h;
           long = r.plain.long ∙ o;
         }
+
+    pub reading-bad : n ≤ i → (sa && sb && (ma && mb)) ≡ false → Reads n ss ms ls None
+    reading-bad h bad = record { fine = sym bad ∙ reading-tests h; sums = tt; plain = reading-plain h; long = r.plain.long ∙ o }

@@ -3,44 +3,48 @@
 ghost use Rattle.std.specs.Prelude.{◌≤◌};
 ghost use Rattle.loops.specs.Given.{Reads};
 
-// Whether every share and minimum is good, and the Rust's `share_sum` and `min_total`.
+// The Rust's `share_sum` and `min_total`.
 #[derive(Clone, Copy)]
-pub struct Given {
-    pub fine: bool,
+pub struct Sums {
     pub shares: f64,
     pub minima: f64,
 }
 
-// A refused input is read to its end too: nothing waits for the tests. Each comparison has a flag of its own, since the compiler makes a dozen
-// instructions of `number::share_ok` in a loop, and three of a comparison.
-pub fn read_all(shares: &[f64; 16], minima: &[f64; 16], least: &mut [f64; 16], n: usize) -> Given
+// The sums, where every share and minimum is good. A refused input is read to its end too: nothing waits for the tests. Each comparison has a
+// flag of its own, since the compiler makes a dozen instructions of `number::share_ok` in a loop, and three of a comparison.
+pub fn read_all(
+    shares: &[f64; 16],
+    minima: &[f64; 16],
+    least: &mut [f64; 16],
+    n: usize,
+) -> Option<Sums>
     requires { n ≤ 16 }
     ensures { Reads n shares.now minima.now least.new result }
 {
-    let inf = f64::from_bits(0x7ff0_0000_0000_0000);
     let mut share_above = true;
     let mut share_below = true;
     let mut minimum_above = true;
     let mut minimum_below = true;
     let mut share_sum = 0.0;
     let mut min_total = 0.0;
-    let mut i = 0usize;
-    while i < n {
+    for i in 0..n {
         let share = shares[i];
         let minimum = minima[i];
         let plain = number::plus_zero(minimum);
         least[i] = plain;
-        share_above = share_above & (0.0 < share);
-        share_below = share_below & (share < inf);
-        minimum_above = minimum_above & (0.0 <= minimum);
-        minimum_below = minimum_below & (minimum < inf);
-        share_sum = share_sum + share;
-        min_total = min_total + plain;
-        i += 1;
+        share_above &= 0.0 < share;
+        share_below &= share < f64::INFINITY;
+        minimum_above &= 0.0 <= minimum;
+        minimum_below &= minimum < f64::INFINITY;
+        share_sum += share;
+        min_total += plain;
     }
-    Given {
-        fine: share_above & share_below & (minimum_above & minimum_below),
-        shares: share_sum,
-        minima: min_total,
+    if share_above & share_below & (minimum_above & minimum_below) {
+        Some(Sums {
+            shares: share_sum,
+            minima: min_total,
+        })
+    } else {
+        None
     }
 }

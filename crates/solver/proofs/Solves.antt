@@ -10,7 +10,6 @@ use lib.ListN.{length, take, drop, replicate, take-append-drop}
 use lib.Seq.{length-take-le, take_at, drop_at}
 use lib.Ieee.{Float, binary64, div, lt, le, eq}
 use lib.Ieee.Fits.{and_l, and_r}
-use borrow.Author.Tests.{le-leb, lt-leb, eq-eqb, ne_eqb}
 use Rattle.rules.specs.Numbers.{zero-f, whole, plus, minimum_ok, share_ok}
 use Rattle.rules.specs.Lists.{all_of}
 use Rattle.rules.specs.Tree.{reals}
@@ -29,7 +28,9 @@ use Rattle.solver.specs.declared.SolvedInto.{SolvedInto}
 use Rattle.solver.specs.Call.{Clear, reals_of, counts_ok, bad_into, SolvesInto}
 use Rattle.loops.specs.Padded.{Padded}
 use Rattle.loops.specs.Given.{Reads}
-use Rattle.loops.specs.declared.given.Given.{Given}
+use Rattle.loops.specs.declared.given.Sums.{Sums}
+use Rattle.std.specs.Prelude.{Option}
+use Rattle.std.specs.Option.{is_some}
 use Rattle.loops.specs.Columns.{kids_shown, unfixed, Long}
 use Rattle.loops.proofs.Branches.{not-true, not-false}
 use Rattle.loops.proofs.Work.{sizes-taken, start-shown}
@@ -37,15 +38,6 @@ use Rattle.loops.proofs.Filling.{zeros}
 
 -- ---- the input, test by test
 module _ (n m : ℕ) (total : Float) where
-  pub counts-wide : 16 < n → false ≡ counts_ok n m total
-  counts-wide h = λ i. sym (lt-leb n 16 h) i && eqb m n && minimum_ok total
-
-  pub counts-unequal : n ≤ 16 → (m ≡ n → ⊥) → false ≡ counts_ok n m total
-  counts-unequal h u = λ i. sym (le-leb n 16 h) i && sym (ne_eqb m n u) i && minimum_ok total
-
-  pub counts-total : n ≤ 16 → m ≡ n → (b : Bool) → b ≡ minimum_ok total → b ≡ counts_ok n m total
-  counts-total h e b is = λ i. sym (le-leb n 16 h) i && sym (eq-eqb m n e) i && is i
-
   pub counts-few : (b : Bool) → b ≡ counts_ok n m total → not b ≡ false → (n ≤ 16) × (m ≡ n)
   counts-few b is good =
       let t : T (counts_ok n m total) = subst T (sym (not-false b good) ∙ is) tt in
@@ -69,9 +61,6 @@ pub same-for : (x : Float) (n : ℕ) (ms : List Float) → length ms ≡ n → r
 same-for x n ms e = ap (λ (k : ℕ). replicate k x) (sym e) ∙ same-each x ms
 
 module _ (total least : Float) (n : ℕ) (ms out : List Float) where
-  pub tight-parts : lt zero-f least ≡ true → Padded n (map (λ (m : Float). part total m least) ms) out → Padded n (tight total least ms) out
-  tight-parts e p = subst (λ (xs : List Float). Padded n xs out) (λ i. cond (sym e i) (map (λ (m : Float). part total m least) ms) (map (λ (m : Float). div binary64 total (whole (length ms))) ms)) p
-
   pub tight-even : lt zero-f least ≡ false → length ms ≡ n → (w : Float) → w ≡ whole n → Padded n (replicate n (div binary64 total w)) out → Padded n (tight total least ms) out
   tight-even e l w is p =
       let a : replicate n (div binary64 total w) ≡ map (λ (m : Float). div binary64 total (whole (length ms))) ms = ap (λ (z : Float). replicate n (div binary64 total z)) (is ∙ ap whole (sym l)) ∙ same-for (div binary64 total (whole (length ms))) n ms l in
@@ -220,18 +209,18 @@ module _ (total : Float) (shares minima : Reals) where
       go false S = shown (solve_by false total (reals shares) (reals minima)) S (S.refused BadInput refl)
 
 -- the call on lent lists, by what their reading came to
-module _ (total : Float) (ss ms least : List Float) (n m : ℕ) (b : Bool) (is : b ≡ counts_ok n m total) (good : not b ≡ false) (g : Given) (R : Reads n ss ms least g) where
+module _ (total : Float) (ss ms least : List Float) (n m : ℕ) (b : Bool) (is : b ≡ counts_ok n m total) (good : not b ≡ false) (g : Option Sums) (R : Reads n ss ms least g) where
   same : m ≡ n
   same = (counts-few n m total b is good).1
 
-  tested : solver_ok n m total (take n ss) (take m ms) ≡ g.fine
-  tested = ok-lists n m total (take n ss) (take m ms) b is good g.fine (R.fine ∙ (λ i. all_of share_ok (take n ss) && all_of minimum_ok (take (sym same i) ms)))
+  tested : solver_ok n m total (take n ss) (take m ms) ≡ is_some g
+  tested = ok-lists n m total (take n ss) (take m ms) b is good (is_some g) (R.fine ∙ (λ i. all_of share_ok (take n ss) && all_of minimum_ok (take (sym same i) ms)))
 
-  pub read-refused : not g.fine ≡ true → (d : SolvedInto) → d ≡ bad_into → (xs : List Float) → SolvesInto (Rules.solve total (reals_of ss n) (reals_of ms m)) xs xs d
-  read-refused e = into-refused total (reals_of ss n) (reals_of ms m) (tested ∙ not-true g.fine e)
+  pub read-refused : is_some g ≡ false → (d : SolvedInto) → d ≡ bad_into → (xs : List Float) → SolvesInto (Rules.solve total (reals_of ss n) (reals_of ms m)) xs xs d
+  read-refused e = into-refused total (reals_of ss n) (reals_of ms m) (tested ∙ e)
 
-  pub read-accepted : not g.fine ≡ false → (t : Float) → t ≡ plus total → (xs xs' : List Float) (p : ℕ) → Shows (solve_lengths_with_min t (take n ss) (take n least)) n xs' p
+  pub read-accepted : is_some g ≡ true → (t : Float) → t ≡ plus total → (xs xs' : List Float) (p : ℕ) → Shows (solve_lengths_with_min t (take n ss) (take n least)) n xs' p
       → SolvesInto (Rules.solve total (reals_of ss n) (reals_of ms m)) xs xs' (record { answer = Accepted; len = n; passes = p })
   read-accepted e t is-t xs xs' p S =
-      into-accepted total (reals_of ss n) (reals_of ms m) (tested ∙ not-false g.fine e) n (counts-few n m total b is good).0 xs xs' p
+      into-accepted total (reals_of ss n) (reals_of ms m) (tested ∙ e) n (counts-few n m total b is good).0 xs xs' p
       (shows-as (λ i. solve_lengths_with_min (is-t i) (take n ss) ((R.plain ∙ ap (λ (k : ℕ). map plus (take k ms)) (sym same)) i)) S)

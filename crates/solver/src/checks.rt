@@ -6,11 +6,5 @@ ghost use Rattle.solver.specs.Call.{counts_ok};
 pub fn counts_ok(total: f64, n: usize, m: usize) -> bool
     ensures { result ≡ counts_ok n m total }
 {
-    if 16 < n {
-        return false;
-    }
-    if m != n {
-        return false;
-    }
-    number::minimum_ok(total)
+    n <= 16 && m == n && number::minimum_ok(total)
 }

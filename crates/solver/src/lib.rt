@@ -13,8 +13,10 @@ ghost use Rattle.solver.specs.Loop.{begun};
 ghost use Rattle.solver.specs.Lent.{Shows};
 ghost use Rattle.solver.specs.Call.{Clear, view_solved, reals_of, bad_into, SolvesInto};
 ghost use Rattle.loops.specs.Padded.{Padded};
+ghost use Rattle.loops.specs.Given.{SumsOf};
 
-use loops::{fills, given, sums};
+use loops::given::{self, Sums};
+use loops::{fills, sums};
 use rules::model::Reals;
 use rules::refusal::{Answer, Refusal};
 use rules::solving::Solution;
@@ -41,17 +43,15 @@ fn tight(total: f64, least: f64, minima: &[f64; 16], n: usize, lengths: &mut [f6
 {
     if 0.0 < least {
         fills::parts(minima, n, total, least, lengths);
-        return;
+    } else {
+        fills::even(n, total / number::whole(n), lengths);
     }
-    let even = total / number::whole(n);
-    fills::even(n, even, lengths);
 }
 
 // The rest of the Rust's function, from `share_sum` on: the lengths by the shares, or what the outer loop makes of them, and its passes.
 fn loose(
     total: f64,
-    share_sum: f64,
-    least: f64,
+    sums: Sums,
     shares: &[f64; 16],
     minima: &[f64; 16],
     n: usize,
@@ -59,44 +59,39 @@ fn loose(
 ) -> u64
     requires some { 0 < n }
     requires few { n ≤ 16 }
-    requires summed { share_sum ≡ sum_of (take n shares.now) }
-    ensures { Shows (Rules.loose total least (begun total (take n shares.now) (take n minima.now))) n lengths.new result }
+    requires summed { sums.shares ≡ sum_of (take n shares.now) }
+    ensures { Shows (Rules.loose total sums.minima (begun total (take n shares.now) (take n minima.now))) n lengths.new result }
 {
-    fills::parts(shares, n, total, share_sum, lengths);
-    if least <= 0.0 {
-        return 0;
+    fills::parts(shares, n, total, sums.shares, lengths);
+    if sums.minima <= 0.0 {
+        0
+    } else {
+        passes::run(total, shares, minima, lengths, n)
     }
-    passes::run(total, shares, minima, lengths, n)
 }
 
 // The Rust's `solve_lengths_with_min`, over the first n of lists that are lent and were summed: it writes the lengths, and answers the passes.
 fn solve_lent(
     total: f64,
-    share_sum: f64,
-    min_total: f64,
+    sums: Sums,
     shares: &[f64; 16],
     minima: &[f64; 16],
     n: usize,
     lengths: &mut [f64; 16],
 ) -> u64
     requires few { n ≤ 16 }
-    requires shares_summed { share_sum ≡ sum_of (take n shares.now) }
-    requires minima_summed { min_total ≡ sum_of (take n minima.now) }
+    requires summed { SumsOf n shares.now minima.now sums }
     ensures { Shows (solve_lengths_with_min total (take n shares.now) (take n minima.now)) n lengths.new result }
 {
-    if n == 0 {
+    if n == 0 || total == 0.0 {
         *lengths = [0.0; 16];
-        return 0;
+        0
+    } else if total <= sums.minima {
+        tight(total, sums.minima, minima, n, lengths);
+        0
+    } else {
+        loose(total, sums, shares, minima, n, lengths)
     }
-    if total == 0.0 {
-        *lengths = [0.0; 16];
-        return 0;
-    }
-    if total <= min_total {
-        tight(total, min_total, minima, n, lengths);
-        return 0;
-    }
-    loose(total, share_sum, min_total, shares, minima, n, lengths)
 }
 
 // The Rust's `solve_lengths_with_min`, for up to 16 children.
@@ -107,10 +102,12 @@ pub fn solve_lengths_with_min(total: f64, shares: Reals, minima: Reals) -> Solve
     let by = shares.at;
     let least = minima.at;
     let n = shares.len;
-    let share_sum = sums::sum(&by, n);
-    let min_total = sums::sum(&least, n);
+    let sums = Sums {
+        shares: sums::sum(&by, n),
+        minima: sums::sum(&least, n),
+    };
     let mut at = [0.0; 16];
-    let passes = solve_lent(total, share_sum, min_total, &by, &least, n, &mut at);
+    let passes = solve_lent(total, sums, &by, &least, n, &mut at);
     let lengths = Reals { at, len: n };
     Solved { lengths, passes }
 }
@@ -143,19 +140,10 @@ pub fn solve_into(
     }
     let n = share_count;
     let mut least = [0.0; 16];
-    let g = given::read_all(shares, minima, &mut least, n);
-    if !g.fine {
+    let Some(sums) = given::read_all(shares, minima, &mut least, n) else {
         return refused();
-    }
-    let passes = solve_lent(
-        number::plus_zero(total),
-        g.shares,
-        g.minima,
-        shares,
-        &least,
-        n,
-        lengths,
-    );
+    };
+    let passes = solve_lent(number::plus_zero(total), sums, shares, &least, n, lengths);
     let answer = Answer::Accepted;
     SolvedInto {
         answer,

@@ -3,19 +3,19 @@ use lib.Ieee.{of_bits}
 use Rattle.solver.proofs.Solves.{begun-free, begun-still, begun-ran}
 use Rattle.solver.proofs.loose.Goals as goal
 
-pub returns-then-least : goal.returns-then-least
+pub returns-then-sums : goal.returns-then-sums
 unfolding of_bits
-returns-then-least c =
+returns-then-sums c =
     let a = c.args in
-    begun-still a.total a.share_sum a.shares.now a.minima.now _ a.n c.requires.some c.requires.few c.told-shares c.told-minima c.requires.summed c.parts.ensures a.least c.if-least.true
+    begun-still a.total a.sums.shares a.shares.now a.minima.now _ a.n c.requires.some c.requires.few c.told-shares c.told-minima c.requires.summed c.parts.ensures a.sums.minima c.if-sums.true
 
 pub run-requires-clause-flexible : goal.run-requires-clause-flexible
 run-requires-clause-flexible c =
     let a = c.args in
-    begun-free a.total a.share_sum a.shares.now a.minima.now _ a.n c.requires.some c.requires.few c.told-shares c.told-minima c.requires.summed c.parts.ensures
+    begun-free a.total a.sums.shares a.shares.now a.minima.now _ a.n c.requires.some c.requires.few c.told-shares c.told-minima c.requires.summed c.parts.ensures
 
-pub returns : goal.returns
+pub returns-else-sums : goal.returns-else-sums
 unfolding of_bits
-returns c =
+returns-else-sums c =
     let a = c.args in
-    begun-ran a.total a.share_sum a.shares.now a.minima.now _ a.n c.requires.some c.requires.few c.told-shares c.told-minima c.requires.summed c.parts.ensures a.least c.if-least.false _ c.run.result c.run.ensures
+    begun-ran a.total a.sums.shares a.shares.now a.minima.now _ a.n c.requires.some c.requires.few c.told-shares c.told-minima c.requires.summed c.parts.ensures a.sums.minima c.if-sums.false _ c.run.result c.run.ensures

@@ -1,9 +1,10 @@
 -- `solve_into` meets its contract: refused where the input is bad, and else the lengths of the input read with minus zero as zero. Assumes nothing.
 use lib.ListN.{take}
 use Rattle.solver.specs.Call.{reals_of}
-use Rattle.solver.proofs.Solves.{counts-few, ok-counts, into-refused, read-refused, read-accepted}
+use Rattle.solver.proofs.Solves.{ok-counts, into-refused, read-refused, read-accepted}
 use mathlib.Core.Path.{ap}
 use mathlib.Core.Bool.{not}
+use Rattle.std.specs.Option.{is_some}
 use Rattle.solver.proofs.solve_into.Goals as goal
 
 pub returns-then-not-counts_ok : goal.returns-then-not-counts_ok
@@ -12,26 +13,15 @@ returns-then-not-counts_ok c =
     into-refused a.total (reals_of a.shares.now a.share_count) (reals_of a.minima.now a.minimum_count)
     (ok-counts a.share_count a.minimum_count a.total (take a.share_count a.shares.now) (take a.minimum_count a.minima.now) c.counts_ok.result c.counts_ok.ensures (ap not c.if-not-counts_ok.true)) c.refused.result c.refused.ensures a.lengths.now
 
-pub read_all-g-requires : goal.read_all-g-requires
-read_all-g-requires c =
+pub returns-in_default : goal.returns-in_default
+returns-in_default c =
     let a = c.args in
-    (counts-few a.share_count a.minimum_count a.total c.counts_ok.result c.counts_ok.ensures (ap not c.if-not-counts_ok.false)).0
+    read-refused a.total a.shares.now a.minima.now _ a.share_count a.minimum_count c.counts_ok.result c.counts_ok.ensures (ap not c.if-not-counts_ok.false) c.read_all.result c.read_all.ensures (ap is_some c.in_default.is) c.refused-in_default.result c.refused-in_default.ensures a.lengths.now
 
-pub returns-then-not-g : goal.returns-then-not-g
-returns-then-not-g c =
-    let a = c.args in
-    read-refused a.total a.shares.now a.minima.now _ a.share_count a.minimum_count c.counts_ok.result c.counts_ok.ensures (ap not c.if-not-counts_ok.false) c.read_all-g.result c.read_all-g.ensures c.if-not-g.true c.refused-then-not-g.result c.refused-then-not-g.ensures a.lengths.now
-
-pub solve_lent-passes-requires : goal.solve_lent-passes-requires
-solve_lent-passes-requires c =
-    let a = c.args in
-    record {
-      few = (counts-few a.share_count a.minimum_count a.total c.counts_ok.result c.counts_ok.ensures (ap not c.if-not-counts_ok.false)).0;
-      shares_summed = c.read_all-g.ensures.shares;
-      minima_summed = c.read_all-g.ensures.minima;
-    }
+pub solve_lent-passes-requires-clause-summed : goal.solve_lent-passes-requires-clause-summed
+solve_lent-passes-requires-clause-summed c = c.in-Some.ensures.sums
 
 pub returns : goal.returns
 returns c =
     let a = c.args in
-    read-accepted a.total a.shares.now a.minima.now _ a.share_count a.minimum_count c.counts_ok.result c.counts_ok.ensures (ap not c.if-not-counts_ok.false) c.read_all-g.result c.read_all-g.ensures c.if-not-g.false c.plus_zero.result c.plus_zero.ensures a.lengths.now _ c.solve_lent-passes.result c.solve_lent-passes.ensures
+    read-accepted a.total a.shares.now a.minima.now _ a.share_count a.minimum_count c.counts_ok.result c.counts_ok.ensures (ap not c.if-not-counts_ok.false) c.read_all.result c.read_all.ensures (ap is_some c.in-Some.is) c.plus_zero.result c.plus_zero.ensures a.lengths.now _ c.solve_lent-passes.result c.solve_lent-passes.ensures

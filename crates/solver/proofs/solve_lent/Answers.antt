@@ -5,22 +5,16 @@ use Prim.Native.Nat.{ℕ, ◌<◌}
 use native.Mathlib.Omega.{arith}
 use lib.ListN.{length, take, replicate}
 use lib.Seq.{length-take-le}
-use lib.Ieee.{of_bits}
+use borrow.Author.Tests.{eq-eqb}
+use mathlib.Core.Bool.{true, false, true≢false}
+use lib.Ieee.{of_bits, eq}
 use Rattle.rules.specs.Numbers.{zero-f}
 use Rattle.rules.specs.Solver.{still, tight, solve_lengths_with_min}
 use Rattle.loops.specs.Padded.{Padded}
 use Rattle.loops.proofs.Filling.{zeros, padded-none, padded-zeros}
 use Rattle.solver.proofs.Solves.{shows, shows-as, same-for, solve-none, solve-zero, solve-tight, solve-loose}
 use Rattle.solver.proofs.solve_lent.Goals as goal
-
-pub returns-then-n-eq0 : goal.returns-then-n-eq0
-unfolding of_bits
-returns-then-n-eq0 c =
-    let a = c.args in
-    let n = a.n in
-    let ms = take n a.minima.now in
-    let e = c.if-n-eq0.true in
-    shows zeros [] n 0 (solve_lengths_with_min a.total (take n a.shares.now) ms) (subst (λ (k : ℕ). Padded k [] zeros) (sym e) padded-none) (solve-none a.total n a.shares.now ms e)
+use Rattle.solver.proofs.solve_lent.Goals.{then-n-eq0, else-n-eq0}
 
 pub returns-then-total : goal.returns-then-total
 unfolding of_bits
@@ -29,29 +23,46 @@ returns-then-total c =
     let n = a.n in
     let ss = take n a.shares.now in
     let ms = take n a.minima.now in
-    let ls : length ss ≡ n = length-take-le n a.shares.now (omega arith) in
-    let some : 0 < length ss = omega (arith, ls, c.if-n-eq0.false) in
-    let lm : length ms ≡ n = length-take-le n a.minima.now (omega arith) in
-    shows zeros (replicate n zero-f) n 0 (solve_lengths_with_min a.total ss ms) (padded-zeros n c.requires.few) (ap still (same-for zero-f n ms lm) ∙ solve-zero a.total ss ms some c.if-total.true)
+    elim c.if-n-eq0.branch [
+      | then-n-eq0 w ↦
+          let e = w.if-n-eq0.true in
+          shows zeros [] n 0 (solve_lengths_with_min a.total ss ms) (subst (λ (k : ℕ). Padded k [] zeros) (sym e) padded-none) (solve-none a.total n a.shares.now ms e)
+      | else-n-eq0 w ↦
+          let ls : length ss ≡ n = length-take-le n a.shares.now (omega arith) in
+          let some : 0 < length ss = omega (arith, ls, w.if-n-eq0.false) in
+          let lm : length ms ≡ n = length-take-le n a.minima.now (omega arith) in
+          let e : eq a.total zero-f ≡ true = sym w.value-is ∙ c.if-total.true in
+          shows zeros (replicate n zero-f) n 0 (solve_lengths_with_min a.total ss ms) (padded-zeros n c.requires.few) (ap still (same-for zero-f n ms lm) ∙ solve-zero a.total ss ms some e)
+    ]
 
-pub returns-then-total-min_total : goal.returns-then-total-min_total
+pub returns-then-total-sums : goal.returns-then-total-sums
 unfolding of_bits
-returns-then-total-min_total c =
+returns-then-total-sums c =
     let a = c.args in
     let n = a.n in
     let ss = take n a.shares.now in
     let ms = take n a.minima.now in
     let ls : length ss ≡ n = length-take-le n a.shares.now (omega arith) in
-    let some : 0 < length ss = omega (arith, ls, c.if-n-eq0.false) in
-    shows _ (tight a.total a.min_total ms) n 0 (solve_lengths_with_min a.total ss ms) c.tight.ensures (solve-tight a.total ss ms some a.min_total c.requires.minima_summed c.if-total.false c.if-total-min_total.true)
+    elim c.if-n-eq0.branch [
+      | then-n-eq0 w ↦ absurd (true≢false (sym (eq-eqb n 0 w.if-n-eq0.true) ∙ sym w.value-is ∙ c.if-total.false))
+      | else-n-eq0 w ↦
+          let some : 0 < length ss = omega (arith, ls, w.if-n-eq0.false) in
+          let e : eq a.total zero-f ≡ false = sym w.value-is ∙ c.if-total.false in
+          shows _ (tight a.total a.sums.minima ms) n 0 (solve_lengths_with_min a.total ss ms) c.tight.ensures (solve-tight a.total ss ms some a.sums.minima c.requires.summed.minima e c.if-total-sums.true)
+    ]
 
-pub returns : goal.returns
+pub returns-else-total-sums : goal.returns-else-total-sums
 unfolding of_bits
-returns c =
+returns-else-total-sums c =
     let a = c.args in
     let n = a.n in
     let ss = take n a.shares.now in
     let ms = take n a.minima.now in
     let ls : length ss ≡ n = length-take-le n a.shares.now (omega arith) in
-    let some : 0 < length ss = omega (arith, ls, c.if-n-eq0.false) in
-    shows-as (solve-loose a.total ss ms some a.min_total c.requires.minima_summed c.if-total.false c.if-total-min_total.false) c.loose.ensures
+    elim c.if-n-eq0.branch [
+      | then-n-eq0 w ↦ absurd (true≢false (sym (eq-eqb n 0 w.if-n-eq0.true) ∙ sym w.value-is ∙ c.if-total.false))
+      | else-n-eq0 w ↦
+          let some : 0 < length ss = omega (arith, ls, w.if-n-eq0.false) in
+          let e : eq a.total zero-f ≡ false = sym w.value-is ∙ c.if-total.false in
+          shows-as (solve-loose a.total ss ms some a.sums.minima c.requires.summed.minima e c.if-total-sums.false) c.loose.ensures
+    ]

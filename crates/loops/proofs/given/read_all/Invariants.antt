@@ -1,10 +1,6 @@
 -- `given::read_all` meets its contract: the first i are read. Assumes nothing.
-use Prim.Native.Nat.{◌-◌}
 use Rattle.loops.proofs.Reading.{Reading}
 use Rattle.loops.proofs.given.read_all.Given as goal
 
 abbrev pub invariant-loop-i : goal.invariant-loop-i
 invariant-loop-i l = Reading l.n l.shares l.minima l.initial.least l.least l.share_above l.share_below l.minimum_above l.minimum_below l.share_sum l.min_total l.i
-
-abbrev pub decreases-loop-i : goal.decreases-loop-i
-decreases-loop-i l = l.n - l.i
