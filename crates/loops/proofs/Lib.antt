@@ -1,6 +1,5 @@
 pub mod Words
 pub mod Loops
 pub mod Filling
-pub mod Branches
 pub mod Work
 pub mod Reading

@@ -10,10 +10,10 @@ use lib.ListN.{length, get_or, take, drop, set, length-set, replicate}
 use lib.Seq.{get_or-drop, take-suc-set, drop-set-lt, drop-drop, set-get_or, length-take-le}
 use lib.Ieee.{Float, nan, binary64, add}
 use Rattle.rules.specs.Numbers.{zero-f}
-use Rattle.rules.specs.Solver.{part, start, short, flexible, pin, spread, any_short}
+use Rattle.rules.specs.Solver.{part, start, resized, short, flexible, pin, spread, any_short}
 use Rattle.rules.specs.declared.solving.Kid.{Kid}
 use Rattle.loops.specs.Columns.{kid, kids_shown, unfixed, Long, Worked, Tallied, Turned}
-use Rattle.loops.specs.declared.kids.Turn.{Turn}
+use Rattle.loops.specs.declared.kids.Held.{Held}
 use Rattle.loops.proofs.Loops.{kid0, rest_at, rest-none, sum-map, Summed, summed-step, summed-end}
 use Rattle.loops.proofs.Filling.{map_more, take-replicate}
 
@@ -152,29 +152,37 @@ spread-step room flex ss ms xs₀ fs l₀ xs i w h x e =
     (working-step (spread room flex) ss ms xs₀ fs l₀ xs fs i w h x (get_or fs i false) e)
 
 -- ---- the first, with its three sums by what is left
-pub record Holding (ss ms xs₀ : List Float) (fs₀ : List Bool) (n : ℕ) (xs : List Float) (fs : List Bool) (changed : Bool) (held rest : Float) (i : ℕ) : Type 0 where
+pin-keeps : (k : Kid) → kid k.share k.minimum (pin k).size (pin k).fixed ≡ pin k
+unfolding pin
+pin-keeps k = go (short k)
+  where
+    go : (b : Bool) → kid k.share k.minimum (cond b (resized k k.minimum true) k).size (cond b (resized k k.minimum true) k).fixed ≡ cond b (resized k k.minimum true) k
+    go true = refl
+    go false = refl
+
+pub record Holding (ss ms xs₀ : List Float) (fs₀ : List Bool) (n : ℕ) (xs : List Float) (fs : List Bool) (r : Held) (i : ℕ) : Type 0 where
   pub few : i ≤ n
   pub work : Working pin ss ms xs₀ fs₀ xs fs i
-  pub any : cond changed true (any_short (drop i (take n (kids_shown ss ms xs₀ fs₀)))) ≡ any_short (take n (kids_shown ss ms xs₀ fs₀))
-  pub sum : Summed (λ (k : Kid). (pin k).fixed) (λ (k : Kid). (pin k).size) zero-f (kids_shown ss ms xs₀ fs₀) n i held
-  pub left : Summed (λ (k : Kid). flexible (pin k)) (λ (k : Kid). (pin k).share) zero-f (kids_shown ss ms xs₀ fs₀) n i rest
+  pub any : cond r.changed true (any_short (drop i (take n (kids_shown ss ms xs₀ fs₀)))) ≡ any_short (take n (kids_shown ss ms xs₀ fs₀))
+  pub sum : Summed (λ (k : Kid). (pin k).fixed) (λ (k : Kid). (pin k).size) zero-f (kids_shown ss ms xs₀ fs₀) n i r.held
+  pub left : Summed (λ (k : Kid). flexible (pin k)) (λ (k : Kid). (pin k).share) zero-f (kids_shown ss ms xs₀ fs₀) n i r.flexible
 
 module _ (ss ms xs₀ : List Float) (fs₀ : List Bool) (n : ℕ) (l₀ : Long ss ms xs₀ fs₀) (few : n ≤ 16) where
   abbrev ks : List Kid
   ks = kids_shown ss ms xs₀ fs₀
 
-  pub holding-start : Holding ss ms xs₀ fs₀ n xs₀ fs₀ false zero-f zero-f 0
+  pub holding-start : Holding ss ms xs₀ fs₀ n xs₀ fs₀ (record { changed = false; held = zero-f; flexible = zero-f }) 0
   holding-start = record { few = omega arith; work = working-start pin ss ms xs₀ fs₀ l₀; any = refl; sum = refl; left = refl }
 
-  module _ (xs : List Float) (fs : List Bool) (changed : Bool) (held rest : Float) (i : ℕ) (w : Holding ss ms xs₀ fs₀ n xs fs changed held rest i) where
-    any_step : i < n → (k : Kid) → get_or ks i kid0 ≡ k → (b : Bool) → b ≡ cond (short k) true changed → cond b true (any_short (drop (i + 1) (take n ks))) ≡ any_short (take n ks)
+  module _ (xs : List Float) (fs : List Bool) (r : Held) (i : ℕ) (w : Holding ss ms xs₀ fs₀ n xs fs r i) where
+    any_step : i < n → (k : Kid) → get_or ks i kid0 ≡ k → (b : Bool) → b ≡ cond (short k) true r.changed → cond b true (any_short (drop (i + 1) (take n ks))) ≡ any_short (take n ks)
     unfolding any_short
-    any_step h k r b e =
+    any_step h k same b e =
         let a : any_short (drop i (take n ks)) ≡ cond (short k) true (any_short (drop (i + 1) (take n ks))) =
-        ap any_short (rest_at ks n i kid0 h (omega (arith, kids-long ss ms xs₀ fs₀ l₀))) ∙ ap (λ (z : Kid). cond (short z) true (any_short (drop (i + 1) (take n ks)))) r in
+        ap any_short (rest_at ks n i kid0 h (omega (arith, kids-long ss ms xs₀ fs₀ l₀))) ∙ ap (λ (z : Kid). cond (short z) true (any_short (drop (i + 1) (take n ks)))) same in
         ap (λ (z : Bool). cond z true (any_short (drop (i + 1) (take n ks)))) e
-        ∙ swap (short k) changed (any_short (drop (i + 1) (take n ks)))
-        ∙ ap (cond changed true) (sym a) ∙ w.any
+        ∙ swap (short k) r.changed (any_short (drop (i + 1) (take n ks)))
+        ∙ ap (cond r.changed true) (sym a) ∙ w.any
       where
         swap : (p q r : Bool) → cond (cond p true q) true r ≡ cond q true (cond p true r)
         swap true true r = refl
@@ -182,28 +190,28 @@ module _ (ss ms xs₀ : List Float) (fs₀ : List Bool) (n : ℕ) (l₀ : Long s
         swap false true r = refl
         swap false false r = refl
 
-    pub holding-step : i < n → (t : Turn) → Turned (kid (get_or ss i nan) (get_or ms i nan) (get_or xs i nan) (get_or fs i false)) changed held rest t
-        → Holding ss ms xs₀ fs₀ n (set xs i t.size) (set fs i t.fixed) t.changed t.held t.flexible (i + 1)
-    holding-step h t d =
+    pub holding-step : i < n → (k : Kid) (t : Held) → Turned (kid (get_or ss i nan) (get_or ms i nan) (get_or xs i nan) (get_or fs i false)) r k t
+        → Holding ss ms xs₀ fs₀ n (set xs i k.size) (set fs i k.fixed) t (i + 1)
+    holding-step h kid₁ t d =
         let k : n ≤ length ks = omega (arith, kids-long ss ms xs₀ fs₀ l₀) in
-        let r = working-read pin ss ms xs₀ fs₀ l₀ xs fs i w.work (omega arith) in
+        let read = working-read pin ss ms xs₀ fs₀ l₀ xs fs i w.work (omega arith) in
         record {
           few = omega arith;
-          work = working-step pin ss ms xs₀ fs₀ l₀ xs fs i w.work (omega arith) t.size t.fixed d.pinned;
-          any = any_step h (kid (get_or ss i nan) (get_or ms i nan) (get_or xs i nan) (get_or fs i false)) r t.changed d.moved;
-          sum = subst (Summed (λ (k : Kid). (pin k).fixed) (λ (k : Kid). (pin k).size) zero-f ks n (i + 1)) (ap (λ (z : Kid). cond (pin z).fixed (add binary64 held (pin z).size) held) r ∙ sym d.held) (summed-step (λ (k : Kid). (pin k).fixed) (λ (k : Kid). (pin k).size) zero-f ks n i held kid0 h k w.sum);
-          left = subst (Summed (λ (k : Kid). flexible (pin k)) (λ (k : Kid). (pin k).share) zero-f ks n (i + 1)) (ap (λ (z : Kid). cond (flexible (pin z)) (add binary64 rest (pin z).share) rest) r ∙ sym d.flexible) (summed-step (λ (k : Kid). flexible (pin k)) (λ (k : Kid). (pin k).share) zero-f ks n i rest kid0 h k w.left);
+          work = working-step pin ss ms xs₀ fs₀ l₀ xs fs i w.work (omega arith) kid₁.size kid₁.fixed (ap (λ (z : Kid). kid (get_or ss i nan) (get_or ms i nan) z.size z.fixed) d.pinned ∙ pin-keeps (kid (get_or ss i nan) (get_or ms i nan) (get_or xs i nan) (get_or fs i false)));
+          any = any_step h (kid (get_or ss i nan) (get_or ms i nan) (get_or xs i nan) (get_or fs i false)) read t.changed d.moved;
+          sum = subst (Summed (λ (k : Kid). (pin k).fixed) (λ (k : Kid). (pin k).size) zero-f ks n (i + 1)) (ap (λ (z : Kid). cond (pin z).fixed (add binary64 r.held (pin z).size) r.held) read ∙ sym d.held) (summed-step (λ (k : Kid). (pin k).fixed) (λ (k : Kid). (pin k).size) zero-f ks n i r.held kid0 h k w.sum);
+          left = subst (Summed (λ (k : Kid). flexible (pin k)) (λ (k : Kid). (pin k).share) zero-f ks n (i + 1)) (ap (λ (z : Kid). cond (flexible (pin z)) (add binary64 r.flexible (pin z).share) r.flexible) read ∙ sym d.flexible) (summed-step (λ (k : Kid). flexible (pin k)) (λ (k : Kid). (pin k).share) zero-f ks n i r.flexible kid0 h k w.left);
         }
 
-    pub holding-end : n ≤ i → Worked pin n ss ms xs₀ fs₀ xs fs × Tallied (take n ks) (record { changed = changed; held = held; flexible = rest })
+    pub holding-end : n ≤ i → Worked pin n ss ms xs₀ fs₀ xs fs × Tallied (take n ks) r
     unfolding any_short
     holding-end h =
         let k : n ≤ length ks = omega (arith, kids-long ss ms xs₀ fs₀ l₀) in (
           working-end pin ss ms xs₀ fs₀ l₀ xs fs i w.work n h w.few,
           record {
-            changed = still changed ∙ ap (λ (z : List Kid). cond changed true (any_short z)) (sym (rest-none ks n i h w.few k)) ∙ w.any;
-            held = summed-end (λ (k : Kid). (pin k).fixed) (λ (k : Kid). (pin k).size) zero-f ks n i held h w.few k w.sum ∙ sum-map (λ (k : Kid). k.fixed) (λ (k : Kid). k.size) pin zero-f (take n ks);
-            flexible = summed-end (λ (k : Kid). flexible (pin k)) (λ (k : Kid). (pin k).share) zero-f ks n i rest h w.few k w.left ∙ sum-map flexible (λ (k : Kid). k.share) pin zero-f (take n ks);
+            changed = still r.changed ∙ ap (λ (z : List Kid). cond r.changed true (any_short z)) (sym (rest-none ks n i h w.few k)) ∙ w.any;
+            held = summed-end (λ (k : Kid). (pin k).fixed) (λ (k : Kid). (pin k).size) zero-f ks n i r.held h w.few k w.sum ∙ sum-map (λ (k : Kid). k.fixed) (λ (k : Kid). k.size) pin zero-f (take n ks);
+            flexible = summed-end (λ (k : Kid). flexible (pin k)) (λ (k : Kid). (pin k).share) zero-f ks n i r.flexible h w.few k w.left ∙ sum-map flexible (λ (k : Kid). k.share) pin zero-f (take n ks);
           },
         )
       where

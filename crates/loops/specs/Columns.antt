@@ -2,10 +2,9 @@
 use Rattle.std.specs.Prelude.{◌≡◌, Bool, true, false, cond, List, [], ◌∷◌, map, ℕ, length, take, drop, replicate, Float}
 use Rattle.std.specs.Float.{binary64}
 use Rattle.std.specs.Float.Ieee.{add}
-use Rattle.rules.specs.Solver.{resized, short, flexible, pin, any_short, fixed_total, flexible_share_total}
+use Rattle.rules.specs.Solver.{short, flexible, pin, any_short, fixed_total, flexible_share_total}
 use Rattle.rules.specs.declared.solving.Kid.{Kid}
 use Rattle.loops.specs.declared.kids.Held.{Held}
-use Rattle.loops.specs.declared.kids.Turn.{Turn}
 
 abbrev pub kid : Float → Float → Float → Bool → Kid
 kid s m x f = record { share = s; minimum = m; size = x; fixed = f }
@@ -42,8 +41,8 @@ pub record Tallied (ks : List Kid) (r : Held) : Type 0 where
   pub flexible : r.flexible ≡ flexible_share_total (map pin ks)
 
 -- one child of that run
-pub record Turned (k : Kid) (before : Bool) (sum rest : Float) (r : Turn) : Type 0 where
-  pub pinned : resized k r.size r.fixed ≡ pin k
-  pub moved : r.changed ≡ cond (short k) true before
-  pub held : r.held ≡ cond (pin k).fixed (add binary64 sum (pin k).size) sum
-  pub flexible : r.flexible ≡ cond (flexible (pin k)) (add binary64 rest (pin k).share) rest
+pub record Turned (k : Kid) (before : Held) (kid : Kid) (r : Held) : Type 0 where
+  pub pinned : kid ≡ pin k
+  pub moved : r.changed ≡ cond (short k) true before.changed
+  pub held : r.held ≡ cond (pin k).fixed (add binary64 before.held (pin k).size) before.held
+  pub flexible : r.flexible ≡ cond (flexible (pin k)) (add binary64 before.flexible (pin k).share) before.flexible

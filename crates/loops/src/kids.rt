@@ -13,55 +13,42 @@ pub struct Held {
     pub flexible: f64,
 }
 
-// A child's length and whether it is fixed, and those locals, after its turn.
-#[derive(Clone, Copy)]
-pub struct Turn {
-    pub size: f64,
-    pub fixed: bool,
-    pub changed: bool,
-    pub held: f64,
-    pub flexible: f64,
-}
-
-// The body of the Rust's first inner loop: a child below its minimum is fixed there.
-fn hold(k: Kid, changed: bool, held: f64, flexible: f64) -> Turn
-    ensures { Turned k changed held flexible result }
+// The body of the Rust's first inner loop: a child below its minimum is fixed there. The child, and those locals, after its turn.
+#[tactic(auto, unfolding(rules::specs::Solver::pin))]
+fn hold(k: Kid, so_far: Held) -> (Kid, Held)
+    ensures { Turned k so_far result.0 result.1 }
 {
     if k.fixed {
-        return Turn {
-            size: k.size,
-            fixed: true,
-            changed,
-            held: held + k.size,
-            flexible,
-        };
+        let held = so_far.held + k.size;
+        return (k, Held { held, ..so_far });
     }
     if k.size < k.minimum {
-        return Turn {
+        let kid = Kid {
             size: k.minimum,
             fixed: true,
-            changed: true,
-            held: held + k.minimum,
-            flexible,
+            ..k
         };
+        let run = Held {
+            changed: true,
+            held: so_far.held + k.minimum,
+            ..so_far
+        };
+        return (kid, run);
     }
-    Turn {
-        size: k.size,
-        fixed: false,
-        changed,
-        held,
-        flexible: flexible + k.share,
-    }
+    let flexible = so_far.flexible + k.share;
+    (k, Held { flexible, ..so_far })
 }
 
 // The body of the Rust's second inner loop: a flexible child's part of what remains.
+#[tactic(auto, unfolding(rules::specs::Solver::spread))]
 fn spread(k: Kid, room: f64, flex: f64) -> f64
     ensures { Rules.resized k result k.fixed ≡ Rules.spread room flex k }
 {
     if k.fixed {
-        return k.size;
+        k.size
+    } else {
+        room * (k.share / flex)
     }
-    room * (k.share / flex)
 }
 
 // The Rust's first inner loop.
@@ -75,30 +62,24 @@ pub fn hold_all(
     requires { n ≤ 16 }
     ensures { Worked Rules.pin n shares.now minima.now sizes.old fixed.old sizes.new fixed.new × Tallied (take n (kids_shown shares.now minima.now sizes.old fixed.old)) result }
 {
-    let mut changed = false;
-    let mut held = 0.0;
-    let mut flexible = 0.0;
-    let mut i = 0usize;
-    while i < n {
+    let mut run = Held {
+        changed: false,
+        held: 0.0,
+        flexible: 0.0,
+    };
+    for i in 0..n {
         let k = Kid {
             share: shares[i],
             minimum: minima[i],
             size: sizes[i],
             fixed: fixed[i],
         };
-        let t = hold(k, changed, held, flexible);
-        sizes[i] = t.size;
-        fixed[i] = t.fixed;
-        changed = t.changed;
-        held = t.held;
-        flexible = t.flexible;
-        i += 1;
+        let (kid, next) = hold(k, run);
+        sizes[i] = kid.size;
+        fixed[i] = kid.fixed;
+        run = next;
     }
-    Held {
-        changed,
-        held,
-        flexible,
-    }
+    run
 }
 
 // The Rust's second inner loop.

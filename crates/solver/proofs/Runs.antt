@@ -15,7 +15,7 @@ use Rattle.solver.specs.Loop.{all_fixed, run-once, next-begins}
 use Rattle.solver.specs.Lent.{Ran}
 use Rattle.loops.specs.Columns.{kids_shown, unfixed, Long, Worked, Tallied}
 use Rattle.loops.specs.declared.kids.Held.{Held}
-use Rattle.loops.proofs.Branches.{not-true, not-false}
+use borrow.Author.Tests.{not-true, not-false}
 use Rattle.loops.proofs.Work.{sizes-taken}
 
 -- what is left to run: `left` runs at most, p counted so far, and a child that is not held

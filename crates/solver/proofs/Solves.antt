@@ -32,7 +32,7 @@ use Rattle.loops.specs.declared.given.Sums.{Sums}
 use Rattle.std.specs.Prelude.{Option}
 use Rattle.std.specs.Option.{is_some}
 use Rattle.loops.specs.Columns.{kids_shown, unfixed, Long}
-use Rattle.loops.proofs.Branches.{not-true, not-false}
+use borrow.Author.Tests.{not-true, not-false}
 use Rattle.loops.proofs.Work.{sizes-taken, start-shown}
 use Rattle.loops.proofs.Filling.{zeros}
 

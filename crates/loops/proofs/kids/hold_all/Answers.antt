@@ -15,10 +15,10 @@ pub loop-i-preserved : goal.loop-i-preserved
 loop-i-preserved c =
     let a = c.args in
     let l : Long a.shares.now a.minima.now a.sizes.now a.fixed.now = record { shares = c.told-shares; minima = c.told-minima; sizes = c.told-sizes; fixed = c.told-fixed } in
-    holding-step a.shares.now a.minima.now a.sizes.now a.fixed.now a.n l c.requires c.loop-i.sizes c.loop-i.fixed c.loop-i.changed c.loop-i.held c.loop-i.flexible c.loop-i.i c.loop-i.invariant c.loop-i-test.true c.hold-t.result c.hold-t.ensures
+    holding-step a.shares.now a.minima.now a.sizes.now a.fixed.now a.n l c.requires c.loop-i.sizes c.loop-i.fixed c.loop-i.run c.loop-i.i c.loop-i.invariant c.loop-i-test.true c.hold.result.0 c.hold.result.1 c.hold.ensures
 
 pub returns : goal.returns
 returns c =
     let a = c.args in
     let l : Long a.shares.now a.minima.now a.sizes.now a.fixed.now = record { shares = c.told-shares; minima = c.told-minima; sizes = c.told-sizes; fixed = c.told-fixed } in
-    holding-end a.shares.now a.minima.now a.sizes.now a.fixed.now a.n l c.requires c.loop-i.sizes c.loop-i.fixed c.loop-i.changed c.loop-i.held c.loop-i.flexible c.loop-i.i c.loop-i.invariant c.loop-i-test.false
+    holding-end a.shares.now a.minima.now a.sizes.now a.fixed.now a.n l c.requires c.loop-i.sizes c.loop-i.fixed c.loop-i.run c.loop-i.i c.loop-i.invariant c.loop-i-test.false

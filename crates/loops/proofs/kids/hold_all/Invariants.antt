@@ -1,10 +1,6 @@
 -- `kids::hold_all` meets its contract: the first i are held and counted, and the rest are as they were. Assumes nothing.
-use Prim.Native.Nat.{◌-◌}
 use Rattle.loops.proofs.Work.{Holding}
 use Rattle.loops.proofs.kids.hold_all.Given as goal
 
 abbrev pub invariant-loop-i : goal.invariant-loop-i
-invariant-loop-i l = Holding l.shares l.minima l.initial.sizes l.initial.fixed l.n l.sizes l.fixed l.changed l.held l.flexible l.i
-
-abbrev pub decreases-loop-i : goal.decreases-loop-i
-decreases-loop-i l = l.n - l.i
+invariant-loop-i l = Holding l.shares l.minima l.initial.sizes l.initial.fixed l.n l.sizes l.fixed l.run l.i
