@@ -95,8 +95,7 @@ pub fn spread_all(
     requires { n ≤ 16 }
     ensures { Worked (Rules.spread room flex) n shares.now minima.now sizes.old fixed.now sizes.new fixed.now }
 {
-    let mut i = 0usize;
-    while i < n {
+    for i in 0..n {
         let k = Kid {
             share: shares[i],
             minimum: minima[i],
@@ -104,6 +103,5 @@ pub fn spread_all(
             fixed: fixed[i],
         };
         sizes[i] = spread(k, room, flex);
-        i += 1;
     }
 }

@@ -9,16 +9,16 @@ pub loop-i-init : goal.loop-i-init
 loop-i-init c =
     let a = c.args in
     let l : Long a.shares.now a.minima.now a.sizes.now a.fixed.now = record { shares = c.told-shares; minima = c.told-minima; sizes = c.told-sizes; fixed = c.told-fixed } in
-    (omega arith, working-start (spread a.room a.flex) a.shares.now a.minima.now a.sizes.now a.fixed.now l)
+    working-start (spread a.room a.flex) a.shares.now a.minima.now a.sizes.now a.fixed.now l
 
 pub loop-i-preserved : goal.loop-i-preserved
 loop-i-preserved c =
     let a = c.args in
     let l : Long a.shares.now a.minima.now a.sizes.now a.fixed.now = record { shares = c.told-shares; minima = c.told-minima; sizes = c.told-sizes; fixed = c.told-fixed } in
-    (omega (arith, c.loop-i-test.true), spread-step a.room a.flex a.shares.now a.minima.now a.sizes.now a.fixed.now l c.loop-i.sizes c.loop-i.i c.loop-i.invariant.1 (omega (arith, c.loop-i-test.true, c.requires)) c.spread.result c.spread.ensures)
+    spread-step a.room a.flex a.shares.now a.minima.now a.sizes.now a.fixed.now l c.loop-i.sizes c.loop-i.i c.loop-i.invariant (omega arith) c.spread.result c.spread.ensures
 
 pub returns : goal.returns
 returns c =
     let a = c.args in
     let l : Long a.shares.now a.minima.now a.sizes.now a.fixed.now = record { shares = c.told-shares; minima = c.told-minima; sizes = c.told-sizes; fixed = c.told-fixed } in
-    working-end (spread a.room a.flex) a.shares.now a.minima.now a.sizes.now a.fixed.now l c.loop-i.sizes a.fixed.now c.loop-i.i c.loop-i.invariant.1 a.n c.loop-i-test.false c.loop-i.invariant.0
+    working-end (spread a.room a.flex) a.shares.now a.minima.now a.sizes.now a.fixed.now l c.loop-i.sizes a.fixed.now c.loop-i.i c.loop-i.invariant a.n c.loop-i-test.false (omega arith)

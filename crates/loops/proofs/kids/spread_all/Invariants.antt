@@ -1,11 +1,7 @@
 -- `kids::spread_all` meets its contract: the first i are spread, and the rest are as they were. Assumes nothing.
-use Prim.Native.Nat.{◌-◌, ◌≤◌}
 use Rattle.rules.specs.Solver.{spread}
 use Rattle.loops.proofs.Work.{Working}
 use Rattle.loops.proofs.kids.spread_all.Given as goal
 
 abbrev pub invariant-loop-i : goal.invariant-loop-i
-invariant-loop-i l = (l.i ≤ l.n) × Working (spread l.room l.flex) l.shares l.minima l.initial.sizes l.fixed l.sizes l.fixed l.i
-
-abbrev pub decreases-loop-i : goal.decreases-loop-i
-decreases-loop-i l = l.n - l.i
+invariant-loop-i l = Working (spread l.room l.flex) l.shares l.minima l.initial.sizes l.fixed l.sizes l.fixed l.i
