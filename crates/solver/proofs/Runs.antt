@@ -72,7 +72,6 @@ module _ (left : ℕ) (total : Float) (p : ℕ) (ks out : List Kid) (R : Run) (s
 
 -- ---- the same over the columns that the code works in
 pub record Running (total : Float) (n : ℕ) (ss ms xs₀ xs : List Float) (fs : List Bool) (p left : ℕ) : Type 0 where
-  pub few : p + left ≤ 32
   pub long : Long ss ms xs fs
   pub past : drop n xs ≡ drop n xs₀
   pub rest : Left total (run n total 0 (take n (kids_shown ss ms xs₀ unfixed))) left p (take n (kids_shown ss ms xs fs))
@@ -80,9 +79,6 @@ pub record Running (total : Float) (n : ℕ) (ss ms xs₀ xs : List Float) (fs :
 module _ (total : Float) (n : ℕ) (ss ms xs₀ : List Float) where
   abbrev whole : Run
   whole = run n total 0 (take n (kids_shown ss ms xs₀ unfixed))
-
-  pub running-start : n ≤ 16 → Long ss ms xs₀ unfixed → all_fixed (take n (kids_shown ss ms xs₀ unfixed)) ≡ false → Running total n ss ms xs₀ xs₀ unfixed 0 n
-  running-start h l e = record { few = omega arith; long = l; past = refl; rest = record { begins = e; so_far = refl } }
 
   -- the loop's children shown as lengths
   ended : (xs : List Float) (fs : List Bool) (p : ℕ) → Long ss ms xs fs → drop n xs ≡ drop n xs₀ → ran (take n (kids_shown ss ms xs fs)) p ≡ whole → Ran total n ss ms xs₀ xs p
@@ -110,7 +106,6 @@ module _ (total : Float) (n : ℕ) (ss ms xs₀ : List Float) where
       pub running-on : not t.changed ≡ false → le t.flexible zero-f ≡ false → (room : Float) → room ≡ larger (sub binary64 total t.held) zero-f
           → (xs₂ : List Float) → Worked (spread room t.flexible) n ss ms xs₁ fs₁ xs₂ fs₁ → Running total n ss ms xs₀ xs₂ fs₁ (p + 1) (left - 1)
       running-on m e room r xs₂ d₂ = record {
-        few = omega (arith, w.few);
         long = d₂.long;
         past = d₂.sizes-past ∙ d.sizes-past ∙ w.past;
         rest = go_on left total p (take n (kids_shown ss ms xs fs)) (take n (kids_shown ss ms xs₁ fs₁)) whole some w.rest t.changed y.changed d.kids t.flexible y.flexible m e t.held room (take n (kids_shown ss ms xs₂ fs₁)) y.held r d₂.kids;

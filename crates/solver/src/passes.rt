@@ -5,7 +5,7 @@ ghost use Rattle.solver.specs.Lent.{Ran};
 ghost use Rattle.solver.specs.Loop.{all_fixed};
 
 // The Rust's `loop`, on the lengths by the shares; how many runs there were. Every run but the last fixes one child more, so that n runs are
-// enough: `left` only shows that it ends. Each run is counted: specs/Loop.antt shows that none begins with every child fixed.
+// enough. Each run is counted: specs/Loop.antt shows that none begins with every child fixed.
 pub fn run(
     total: f64,
     shares: &[f64; 16],
@@ -18,20 +18,13 @@ pub fn run(
     ensures { Ran total n shares.now minima.now sizes.old sizes.new result }
 {
     let mut fixed = [false; 16];
-    let mut passes = 0u64;
-    let mut left = n;
-    while 0 < left {
+    for earlier in 0..n {
         let turn = loops::kids::hold_all(shares, minima, sizes, &mut fixed, n);
-        passes += 1;
-        if !turn.changed {
-            return passes;
-        }
-        if turn.flexible <= 0.0 {
-            return passes;
+        if !turn.changed || turn.flexible <= 0.0 {
+            return earlier as u64 + 1;
         }
         let room = number::larger(total - turn.held, 0.0);
         loops::kids::spread_all(shares, minima, sizes, &fixed, n, room, turn.flexible);
-        left -= 1;
     }
-    passes
+    n as u64
 }

@@ -1,37 +1,43 @@
--- `passes::run` meets its contract: the invariant says what is left to run, and that the count stays small. Assumes nothing.
-use mathlib.Core.Path.{refl}
+-- `passes::run` meets its contract: the invariant says what is left to run. Assumes nothing.
+use mathlib.Core.Path.{◌≡◌, subst}
+use Prim.Native.Nat.{ℕ, ◌+◌, ◌-◌, ◌<◌}
+use native.Mathlib.Omega.{arith}
 use lib.Ieee.{of_bits}
-use Rattle.loops.specs.Columns.{Long, unfixed}
-use Rattle.solver.proofs.Runs.{running-start, running-on, ended-none, ended-flex, ended-out}
+use Rattle.solver.specs.Lent.{Ran}
+use Rattle.solver.proofs.Runs.{Running, running-on, ended-none, ended-flex, ended-out}
 use Rattle.solver.proofs.passes.run.Goals as goal
-
-pub loop-left-init : goal.loop-left-init
-loop-left-init c =
-    let a = c.args in
-    let l : Long a.shares.now a.minima.now a.sizes.now unfixed = record { shares = c.told-shares; minima = c.told-minima; sizes = c.told-sizes; fixed = refl } in
-    running-start a.total a.n a.shares.now a.minima.now a.sizes.now c.requires.few l c.requires.flexible
+use Rattle.solver.proofs.passes.run.Goals.{then-not-turn-via-then-not-turn, then-not-turn-via-else-not-turn+then-turn}
 
 pub returns-then-not-turn : goal.returns-then-not-turn
+unfolding of_bits
 returns-then-not-turn c =
     let a = c.args in
+    let l = c.loop-earlier in
     let k = c.hold_all-turn in
-    ended-none a.total a.n a.shares.now a.minima.now a.sizes.now c.loop-left.sizes c.loop-left.fixed c.loop-left.passes c.loop-left.left c.loop-left.invariant c.loop-left-test.true k.new.sizes k.new.fixed k.result k.ensures.0 k.ensures.1 c.if-not-turn.true
+    let some : 0 < a.n - l.earlier = omega arith in
+    elim c.then-not-turn.branch [
+      | then-not-turn-via-then-not-turn w ↦
+          ended-none a.total a.n a.shares.now a.minima.now a.sizes.now l.sizes l.fixed l.earlier (a.n - l.earlier) l.invariant some k.new.sizes k.new.fixed k.result k.ensures.0 k.ensures.1 w.if-not-turn.true
+      | then-not-turn-via-else-not-turn+then-turn w ↦
+          ended-flex a.total a.n a.shares.now a.minima.now a.sizes.now l.sizes l.fixed l.earlier (a.n - l.earlier) l.invariant some k.new.sizes k.new.fixed k.result k.ensures.0 k.ensures.1 w.if-turn.true
+    ]
 
-pub returns-then-turn : goal.returns-then-turn
+pub loop-earlier-preserved : goal.loop-earlier-preserved
 unfolding of_bits
-returns-then-turn c =
+loop-earlier-preserved c =
     let a = c.args in
+    let l = c.loop-earlier in
     let k = c.hold_all-turn in
-    ended-flex a.total a.n a.shares.now a.minima.now a.sizes.now c.loop-left.sizes c.loop-left.fixed c.loop-left.passes c.loop-left.left c.loop-left.invariant c.loop-left-test.true k.new.sizes k.new.fixed k.result k.ensures.0 k.ensures.1 c.if-turn.true
-
-pub loop-left-preserved : goal.loop-left-preserved
-unfolding of_bits
-loop-left-preserved c =
-    let a = c.args in
-    let k = c.hold_all-turn in
-    running-on a.total a.n a.shares.now a.minima.now a.sizes.now c.loop-left.sizes c.loop-left.fixed c.loop-left.passes c.loop-left.left c.loop-left.invariant c.loop-left-test.true k.new.sizes k.new.fixed k.result k.ensures.0 k.ensures.1 c.if-not-turn.false c.if-turn.false c.larger-room.result c.larger-room.ensures c.spread_all.new.sizes c.spread_all.ensures
+    let some : 0 < a.n - l.earlier = omega arith in
+    let P : ℕ → Type 0 = λ left. Running a.total a.n a.shares.now a.minima.now a.sizes.now c.spread_all.new.sizes k.new.fixed (l.earlier + 1) left in
+    let e : a.n - l.earlier - 1 ≡ a.n - (l.earlier + 1) = omega arith in
+    subst P e
+    (running-on a.total a.n a.shares.now a.minima.now a.sizes.now l.sizes l.fixed l.earlier (a.n - l.earlier) l.invariant some k.new.sizes k.new.fixed k.result k.ensures.0 k.ensures.1 c.if-not-turn.false c.if-turn.false c.larger-room.result c.larger-room.ensures c.spread_all.new.sizes c.spread_all.ensures)
 
 pub returns : goal.returns
 returns c =
     let a = c.args in
-    ended-out a.total a.n a.shares.now a.minima.now a.sizes.now c.loop-left.sizes c.loop-left.fixed c.loop-left.passes c.loop-left.left c.loop-left.invariant c.loop-left-test.false
+    let l = c.loop-earlier in
+    let P : ℕ → Type 0 = λ passes. Ran a.total a.n a.shares.now a.minima.now a.sizes.now l.sizes passes in
+    let e : l.earlier ≡ a.n = omega arith in
+    subst P e (ended-out a.total a.n a.shares.now a.minima.now a.sizes.now l.sizes l.fixed l.earlier (a.n - l.earlier) l.invariant (omega arith))
