@@ -1,9 +1,21 @@
 // The children in the solver's work, four lists side by side: shares and minima, which are only read, lengths so far, and which are fixed at their minimum.
-ghost use Rattle.std.specs.Prelude.{◌≡◌, ◌≤◌, take};
+// Kept: lengths and `fixed` are lent one by one, since what a struct of two `&mut` leaves in them is not known afterwards (a caller's goal `returns` stays open).
+ghost use Rattle.std.specs.Prelude.{◌≡◌, ◌≤◌, length, take};
 ghost use Rattle.rules.specs.Solver as Rules;
 ghost use Rattle.loops.specs.Columns.{kids_shown, Worked, Tallied, Turned};
 
 use rules::solving::Kid;
+
+// The shares and minima of up to 16 children, and how many there are.
+#[derive(Clone, Copy)]
+pub struct Wants<'a> {
+    pub shares: &'a [f64; 16],
+    pub minima: &'a [f64; 16],
+    pub count: usize,
+    pub ghost few: { count ≤ 16 },
+    pub ghost shares_long: { length shares.now ≡ 16 },
+    pub ghost minima_long: { length minima.now ≡ 16 },
+}
 
 // The locals of the Rust's outer loop: `changed`, `fixed_total` and `flexible_share_total`.
 #[derive(Clone, Copy)]
@@ -52,25 +64,19 @@ fn spread(k: Kid, room: f64, flex: f64) -> f64
 }
 
 // The Rust's first inner loop.
-pub fn hold_all(
-    shares: &[f64; 16],
-    minima: &[f64; 16],
-    sizes: &mut [f64; 16],
-    fixed: &mut [bool; 16],
-    n: usize,
-) -> Held
-    requires { n ≤ 16 }
-    ensures { Worked Rules.pin n shares.now minima.now sizes.old fixed.old sizes.new fixed.new × Tallied (take n (kids_shown shares.now minima.now sizes.old fixed.old)) result }
+pub fn hold_all(kids: Wants, sizes: &mut [f64; 16], fixed: &mut [bool; 16]) -> Held
+    ensures worked { Worked Rules.pin kids.entry.count kids.entry.shares.now kids.entry.minima.now sizes.old fixed.old sizes.new fixed.new }
+    ensures tallied { Tallied (take kids.entry.count (kids_shown kids.entry.shares.now kids.entry.minima.now sizes.old fixed.old)) result }
 {
     let mut run = Held {
         changed: false,
         held: 0.0,
         flexible: 0.0,
     };
-    for i in 0..n {
+    for i in 0..kids.count {
         let k = Kid {
-            share: shares[i],
-            minimum: minima[i],
+            share: kids.shares[i],
+            minimum: kids.minima[i],
             size: sizes[i],
             fixed: fixed[i],
         };
@@ -83,22 +89,13 @@ pub fn hold_all(
 }
 
 // The Rust's second inner loop.
-pub fn spread_all(
-    shares: &[f64; 16],
-    minima: &[f64; 16],
-    sizes: &mut [f64; 16],
-    fixed: &[bool; 16],
-    n: usize,
-    room: f64,
-    flex: f64,
-)
-    requires { n ≤ 16 }
-    ensures { Worked (Rules.spread room flex) n shares.now minima.now sizes.old fixed.now sizes.new fixed.now }
+pub fn spread_all(kids: Wants, sizes: &mut [f64; 16], fixed: &[bool; 16], room: f64, flex: f64)
+    ensures { Worked (Rules.spread room flex) kids.entry.count kids.entry.shares.now kids.entry.minima.now sizes.old fixed.now sizes.new fixed.now }
 {
-    for i in 0..n {
+    for i in 0..kids.count {
         let k = Kid {
-            share: shares[i],
-            minimum: minima[i],
+            share: kids.shares[i],
+            minimum: kids.minima[i],
             size: sizes[i],
             fixed: fixed[i],
         };

@@ -16,6 +16,7 @@ ghost use Rattle.loops.specs.Padded.{Padded};
 ghost use Rattle.loops.specs.Given.{SumsOf};
 
 use loops::given::{self, Sums};
+use loops::kids::Wants;
 use loops::{fills, sums};
 use rules::model::Reals;
 use rules::refusal::{Answer, Refusal};
@@ -49,48 +50,32 @@ fn tight(total: f64, least: f64, minima: &[f64; 16], n: usize, lengths: &mut [f6
 }
 
 // The rest of the Rust's function, from `share_sum` on: the lengths by the shares, or what the outer loop makes of them, and its passes.
-fn loose(
-    total: f64,
-    sums: Sums,
-    shares: &[f64; 16],
-    minima: &[f64; 16],
-    n: usize,
-    lengths: &mut [f64; 16],
-) -> u64
-    requires some { 0 < n }
-    requires few { n ≤ 16 }
-    requires summed { sums.shares ≡ sum_of (take n shares.now) }
-    ensures { Shows (Rules.loose total sums.minima (begun total (take n shares.now) (take n minima.now))) n lengths.new result }
+fn loose(total: f64, sums: Sums, kids: Wants, lengths: &mut [f64; 16]) -> u64
+    requires some { 0 < kids.count }
+    requires summed { sums.shares ≡ sum_of (take kids.count kids.shares.now) }
+    ensures { Shows (Rules.loose total sums.minima (begun total (take kids.entry.count kids.entry.shares.now) (take kids.entry.count kids.entry.minima.now))) kids.entry.count lengths.new result }
 {
-    fills::parts(shares, n, total, sums.shares, lengths);
+    fills::parts(kids.shares, kids.count, total, sums.shares, lengths);
     if sums.minima <= 0.0 {
         0
     } else {
-        passes::run(total, shares, minima, lengths, n)
+        passes::run(total, kids, lengths)
     }
 }
 
 // The Rust's `solve_lengths_with_min`, over the first n of lists that are lent and were summed: it writes the lengths, and answers the passes.
-fn solve_lent(
-    total: f64,
-    sums: Sums,
-    shares: &[f64; 16],
-    minima: &[f64; 16],
-    n: usize,
-    lengths: &mut [f64; 16],
-) -> u64
-    requires few { n ≤ 16 }
-    requires summed { SumsOf n shares.now minima.now sums }
-    ensures { Shows (solve_lengths_with_min total (take n shares.now) (take n minima.now)) n lengths.new result }
+fn solve_lent(total: f64, sums: Sums, kids: Wants, lengths: &mut [f64; 16]) -> u64
+    requires { SumsOf kids.count kids.shares.now kids.minima.now sums }
+    ensures { Shows (solve_lengths_with_min total (take kids.entry.count kids.entry.shares.now) (take kids.entry.count kids.entry.minima.now)) kids.entry.count lengths.new result }
 {
-    if n == 0 || total == 0.0 {
+    if kids.count == 0 || total == 0.0 {
         *lengths = [0.0; 16];
         0
     } else if total <= sums.minima {
-        tight(total, sums.minima, minima, n, lengths);
+        tight(total, sums.minima, kids.minima, kids.count, lengths);
         0
     } else {
-        loose(total, sums, shares, minima, n, lengths)
+        loose(total, sums, kids, lengths)
     }
 }
 
@@ -107,7 +92,12 @@ pub fn solve_lengths_with_min(total: f64, shares: Reals, minima: Reals) -> Solve
         minima: sums::sum(&least, n),
     };
     let mut at = [0.0; 16];
-    let passes = solve_lent(total, sums, &by, &least, n, &mut at);
+    let kids = Wants {
+        shares: &by,
+        minima: &least,
+        count: n,
+    };
+    let passes = solve_lent(total, sums, kids, &mut at);
     let lengths = Reals { at, len: n };
     Solved { lengths, passes }
 }
@@ -143,7 +133,12 @@ pub fn solve_into(
     let Some(sums) = given::read_all(shares, minima, &mut least, n) else {
         return refused();
     };
-    let passes = solve_lent(number::plus_zero(total), sums, shares, &least, n, lengths);
+    let kids = Wants {
+        shares,
+        minima: &least,
+        count: n,
+    };
+    let passes = solve_lent(number::plus_zero(total), sums, kids, lengths);
     let answer = Answer::Accepted;
     SolvedInto {
         answer,

@@ -7,15 +7,15 @@ pub returns-then-sums : goal.returns-then-sums
 unfolding of_bits
 returns-then-sums c =
     let a = c.args in
-    begun-still a.total a.sums.shares a.shares.now a.minima.now _ a.n c.requires.some c.requires.few c.told-shares c.told-minima c.requires.summed c.parts.ensures a.sums.minima c.if-sums.true
+    begun-still a.total a.sums.shares a.kids.shares.now a.kids.minima.now _ a.kids.count c.requires.some a.kids.few a.kids.shares_long a.kids.minima_long c.requires.summed c.parts.ensures a.sums.minima c.if-sums.true
 
-pub run-requires-clause-flexible : goal.run-requires-clause-flexible
-run-requires-clause-flexible c =
+pub run-requires : goal.run-requires
+run-requires c =
     let a = c.args in
-    begun-free a.total a.sums.shares a.shares.now a.minima.now _ a.n c.requires.some c.requires.few c.told-shares c.told-minima c.requires.summed c.parts.ensures
+    begun-free a.total a.sums.shares a.kids.shares.now a.kids.minima.now _ a.kids.count c.requires.some a.kids.few a.kids.shares_long a.kids.minima_long c.requires.summed c.parts.ensures
 
 pub returns-else-sums : goal.returns-else-sums
 unfolding of_bits
 returns-else-sums c =
     let a = c.args in
-    begun-ran a.total a.sums.shares a.shares.now a.minima.now _ a.n c.requires.some c.requires.few c.told-shares c.told-minima c.requires.summed c.parts.ensures a.sums.minima c.if-sums.false _ c.run.result c.run.ensures
+    begun-ran a.total a.sums.shares a.kids.shares.now a.kids.minima.now _ a.kids.count c.requires.some a.kids.few a.kids.shares_long a.kids.minima_long c.requires.summed c.parts.ensures a.sums.minima c.if-sums.false _ c.run.result c.run.ensures

@@ -14,12 +14,12 @@ returns-then-not-turn c =
     let a = c.args in
     let l = c.loop-earlier in
     let k = c.hold_all-turn in
-    let some : 0 < a.n - l.earlier = omega arith in
+    let some : 0 < a.kids.count - l.earlier = omega arith in
     elim c.then-not-turn.branch [
       | then-not-turn-via-then-not-turn w ↦
-          ended-none a.total a.n a.shares.now a.minima.now a.sizes.now l.sizes l.fixed l.earlier (a.n - l.earlier) l.invariant some k.new.sizes k.new.fixed k.result k.ensures.0 k.ensures.1 w.if-not-turn.true
+          ended-none a.total a.kids.count a.kids.shares.now a.kids.minima.now a.sizes.now l.sizes l.fixed l.earlier (a.kids.count - l.earlier) l.invariant some k.new.sizes k.new.fixed k.result k.ensures.worked k.ensures.tallied w.if-not-turn.true
       | then-not-turn-via-else-not-turn+then-turn w ↦
-          ended-flex a.total a.n a.shares.now a.minima.now a.sizes.now l.sizes l.fixed l.earlier (a.n - l.earlier) l.invariant some k.new.sizes k.new.fixed k.result k.ensures.0 k.ensures.1 w.if-turn.true
+          ended-flex a.total a.kids.count a.kids.shares.now a.kids.minima.now a.sizes.now l.sizes l.fixed l.earlier (a.kids.count - l.earlier) l.invariant some k.new.sizes k.new.fixed k.result k.ensures.worked k.ensures.tallied w.if-turn.true
     ]
 
 pub loop-earlier-preserved : goal.loop-earlier-preserved
@@ -28,16 +28,16 @@ loop-earlier-preserved c =
     let a = c.args in
     let l = c.loop-earlier in
     let k = c.hold_all-turn in
-    let some : 0 < a.n - l.earlier = omega arith in
-    let P : ℕ → Type 0 = λ left. Running a.total a.n a.shares.now a.minima.now a.sizes.now c.spread_all.new.sizes k.new.fixed (l.earlier + 1) left in
-    let e : a.n - l.earlier - 1 ≡ a.n - (l.earlier + 1) = omega arith in
+    let some : 0 < a.kids.count - l.earlier = omega arith in
+    let P : ℕ → Type 0 = λ left. Running a.total a.kids.count a.kids.shares.now a.kids.minima.now a.sizes.now c.spread_all.new.sizes k.new.fixed (l.earlier + 1) left in
+    let e : a.kids.count - l.earlier - 1 ≡ a.kids.count - (l.earlier + 1) = omega arith in
     subst P e
-    (running-on a.total a.n a.shares.now a.minima.now a.sizes.now l.sizes l.fixed l.earlier (a.n - l.earlier) l.invariant some k.new.sizes k.new.fixed k.result k.ensures.0 k.ensures.1 c.if-not-turn.false c.if-turn.false c.larger-room.result c.larger-room.ensures c.spread_all.new.sizes c.spread_all.ensures)
+    (running-on a.total a.kids.count a.kids.shares.now a.kids.minima.now a.sizes.now l.sizes l.fixed l.earlier (a.kids.count - l.earlier) l.invariant some k.new.sizes k.new.fixed k.result k.ensures.worked k.ensures.tallied c.if-not-turn.false c.if-turn.false c.larger-room.result c.larger-room.ensures c.spread_all.new.sizes c.spread_all.ensures)
 
 pub returns : goal.returns
 returns c =
     let a = c.args in
     let l = c.loop-earlier in
-    let P : ℕ → Type 0 = λ passes. Ran a.total a.n a.shares.now a.minima.now a.sizes.now l.sizes passes in
-    let e : l.earlier ≡ a.n = omega arith in
-    subst P e (ended-out a.total a.n a.shares.now a.minima.now a.sizes.now l.sizes l.fixed l.earlier (a.n - l.earlier) l.invariant (omega arith))
+    let P : ℕ → Type 0 = λ passes. Ran a.total a.kids.count a.kids.shares.now a.kids.minima.now a.sizes.now l.sizes passes in
+    let e : l.earlier ≡ a.kids.count = omega arith in
+    subst P e (ended-out a.total a.kids.count a.kids.shares.now a.kids.minima.now a.sizes.now l.sizes l.fixed l.earlier (a.kids.count - l.earlier) l.invariant (omega arith))
