@@ -98,17 +98,18 @@ pub fn solve_lengths_with_min(total: f64, shares: Reals, minima: Reals) -> Solve
         count: n,
     };
     let passes = solve_lent(total, sums, kids, &mut at);
-    let lengths = Reals { at, len: n };
-    Solved { lengths, passes }
+    Solved {
+        lengths: Reals { at, len: n },
+        passes,
+    }
 }
 
 // A refusal has no lengths and no passes.
 fn refused() -> SolvedInto
     ensures { result ≡ bad_into }
 {
-    let answer = Answer::Refused(Refusal::BadInput);
     SolvedInto {
-        answer,
+        answer: Err(Refusal::BadInput),
         len: 0,
         passes: 0,
     }
@@ -139,9 +140,8 @@ pub fn solve_into(
         count: n,
     };
     let passes = solve_lent(number::plus_zero(total), sums, kids, lengths);
-    let answer = Answer::Accepted;
     SolvedInto {
-        answer,
+        answer: Ok(()),
         len: n,
         passes,
     }
@@ -156,11 +156,9 @@ pub fn solve(total: f64, shares: Reals, minima: Reals) -> Solution
     let least = minima.at;
     let mut at = [0.0; 16];
     let d = solve_into(total, &by, shares.len, &least, minima.len, &mut at);
-    let answer = d.answer;
-    let lengths = Reals { at, len: d.len };
     Solution {
-        answer,
-        lengths,
+        answer: d.answer,
+        lengths: Reals { at, len: d.len },
         passes: d.passes,
     }
 }

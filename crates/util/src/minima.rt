@@ -5,7 +5,6 @@ ghost use Rattle.rules.specs.Tree as Tree;
 ghost use Rattle.lists.specs.Exact.{IsReals};
 ghost use Rattle.util.specs.Entries.{least_at};
 
-use real_lists::reals;
 use rules::model::Reals;
 
 // A minimum as aligned_constraints keeps it; minus zero becomes zero (document 01's own).
@@ -52,7 +51,7 @@ pub fn compact_constraints(minima: Reals) -> Reals
     ensures { IsReals result (compact_constraints (Tree.reals minima)) }
 {
     let n = kept(minima);
-    reals::first(minima, n)
+    lists::first(minima, n)
 }
 
 // A child's minimum along the axis: the larger of the default and its own, where that is good.
@@ -99,5 +98,5 @@ pub fn split_min_major(count: usize, minima: Reals, fallback: f64) -> Reals
     if number::minimum_ok(fallback) {
         return min_major(count, minima, fallback);
     }
-    reals::repeat(count, 0.0)
+    lists::repeat(count, 0.0)
 }

@@ -6,7 +6,6 @@ ghost use Rattle.rules.specs.Shares.{fix_share, repaired_shares, eq_reals};
 ghost use Rattle.rules.specs.Tree as Tree;
 ghost use Rattle.lists.specs.Exact.{IsReals};
 
-use real_lists::reals;
 use rules::model::Reals;
 
 // A share as repaired_shares keeps it: one that is not finite or not positive becomes 1.0.
@@ -48,7 +47,7 @@ pub fn repaired_shares(count: usize, shares: Reals) -> Reals
     if shares.len == count && any_good(shares) {
         mended(shares)
     } else {
-        reals::repeat(count, 1.0)
+        lists::repeat(count, 1.0)
     }
 }
 
