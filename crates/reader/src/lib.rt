@@ -8,7 +8,7 @@ pub mod cursor;
 ghost use Rattle.std.specs.Prelude.{◌≡◌};
 ghost use Rattle.reader.specs.Section.{SectionAt};
 
-use crate::cursor::{Found, find_section};
+use crate::cursor::{Section, find_section};
 
 #[derive(Clone, Copy)]
 pub struct Reader<'a> {
@@ -31,14 +31,14 @@ pub fn moved<'a>(r: Reader<'a>, at: usize) -> Reader<'a>
 }
 
 // The section that stands at its place.
-pub fn section<'a>(r: Reader<'a>) -> Found
+pub fn section<'a>(r: Reader<'a>) -> Option<Section>
     ensures { SectionAt r.entry.bytes.now r.entry.at result }
 {
     find_section(r.bytes, r.at)
 }
 
 // The section at a place of a plain slice, by a reader that is taken apart at once.
-pub fn section_at(b: &[u8], at: usize) -> Found
+pub fn section_at(b: &[u8], at: usize) -> Option<Section>
     ensures { SectionAt b.now at result }
 {
     section(moved(new(b), at))
