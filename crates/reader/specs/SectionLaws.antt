@@ -37,6 +37,6 @@ module _ (bs : List ℕ) (p : ℕ) where
         is = counted h
             ∙ ap (λ (b : Bool). section_of b 8 (number_at 4 p bs) (drop (p + 4) bs)) (le-leb (8 * number_at 4 p bs) (length (drop (p + 4) bs)) (omega (arith, e, length-drop (p + 4) bs)))
             ∙ ap (λ (k : ℕ). section_of true 8 k (drop (p + 4) bs)) (sym e)
-            ∙ ap (λ (l : List ℕ). some (record { entries = chunks_at bs (p + 4) n; rest = l })) (drop-drop (8 * n) (p + 4) bs);
+            ∙ ap (λ (l : List ℕ). some (record { entries = chunks_at bs (record { start = p + 4; count = n }); rest = l })) (drop-drop (8 * n) (p + 4) bs);
         here = record { inside = omega arith; few = f };
       }
