@@ -25,8 +25,8 @@ use Rattle.table.specs.declared.sections.Places.{Places}
 
 -- ---- the built tree
 
-rows-size : (bs : List ℕ) (t : Places) → length (table_of bs t).rows ≡ t.row_count
-rows-size bs t = length-entries bs t.rows t.row_count row_from
+rows-size : (bs : List ℕ) (t : Places) → length (table_of bs t).rows ≡ t.rows.count
+rows-size bs t = length-entries bs t.rows row_from
 
 module _ (bs : List ℕ) (t : Places) (w : Passed bs t) where
   pub ready : (kids : List ℕ) → length kids ≡ 1024 → Ready bs t kids 0
@@ -34,7 +34,7 @@ module _ (bs : List ℕ) (t : Places) (w : Passed bs t) where
 
   pub slotted : (kids₀ kids : List ℕ) (end : ℕ) → Pushed (rows_at bs t) kids₀ kids 0 end → Slotted bs t kids end
   slotted kids₀ kids end p =
-      let s : length (table_of bs t).rows ≡ t.row_count = rows-size bs t in
+      let s : length (table_of bs t).rows ≡ t.rows.count = rows-size bs t in
       let h : end ≤ length (table_of bs t).rows = p.high in
       record {
         placed = w.tabled.placed;
@@ -78,10 +78,10 @@ module _ (bs : List ℕ) (t : Places) (w : Tabled bs t) where
   unfolding draft_of
   one = ap draft_tabled w.read
 
-  pub draft-full : 64 < t.row_count → refused_spec ArenaFull ≡ draft_of bs
+  pub draft-full : 64 < t.rows.count → refused_spec ArenaFull ≡ draft_of bs
   draft-full h = sym (one ∙ ap (λ (b : Bool). draft_within b (table_of bs t)) (lt-ltb 64 (length (table_of bs t).rows) (omega (arith, (rows-size bs t)))))
 
-  module _ (h : t.row_count ≤ 64) where
+  module _ (h : t.rows.count ≤ 64) where
     two : draft_of bs ≡ draft_narrow (any_of wide_row (table_of bs t).rows) (table_of bs t)
     two = one ∙ ap (λ (b : Bool). draft_within b (table_of bs t)) (le-ltb 64 (length (table_of bs t).rows) (omega (arith, (rows-size bs t))))
 

@@ -10,11 +10,11 @@ ghost use Rattle.drafting.specs.Draft.{Passed, BuiltIn, draft_of};
 use build::push::push_spec;
 use build::slots::slots_into;
 use checks::entry::too_wide;
-use checks::validate::{Checked, check_rows};
+use checks::validate::check_rows;
 use rules::model::TileTree;
 use rules::refusal::{Answer, Refusal};
 use table::preorder::read_table;
-use table::sections::{Places, Sections};
+use table::sections::Places;
 
 #[derive(Clone, Copy)]
 pub struct Draft {
@@ -50,16 +50,16 @@ pub fn build_into(
     requires { Bare heads.old ids.old shares.old minima.old }
     ensures { BuiltIn (draft_of b.now) result 0 heads.new ids.new shares.new minima.new }
 {
-    let Sections::Four(t) = read_table(b) else {
+    let Some(t) = read_table(b) else {
         return Answer::Refused(Refusal::BadTable);
     };
-    if 64 < t.row_count {
+    if 64 < t.rows.count {
         return Answer::Refused(Refusal::ArenaFull);
     }
     if too_wide(b, t) {
         return Answer::Refused(Refusal::TooWide);
     }
-    if let Checked::Bad(e) = check_rows(b, t) {
+    if let Err(e) = check_rows(b, t) {
         return Answer::Refused(e);
     }
     built_into(b, t, heads, ids, shares, minima);
