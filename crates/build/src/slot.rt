@@ -33,7 +33,9 @@ fn filled<T: Copy, F: Fn(usize) -> T>(d: T, n: usize, entry: F) -> [T; 16]
 }
 
 fn panes_of(b: &[u8], t: Places, p: usize, n: usize) -> Ids
-    requires { (Placed b.now t) × (p + n ≤ t.panes.count) × (n ≤ 16) }
+    requires placed { Placed b.now t }
+    requires inside { p + n ≤ t.panes.count }
+    requires few { n ≤ 16 }
     ensures { IsIds result (take n (drop p (panes_at b.now t))) }
 {
     let at = filled(0, n, move |j| pane_at(b, t, p + j));
@@ -42,7 +44,9 @@ fn panes_of(b: &[u8], t: Places, p: usize, n: usize) -> Ids
 
 // n of a section's shares or minima, after the first from.
 fn reals_of(b: &[u8], reals: Section, from: usize, n: usize) -> Reals
-    requires { (Held b.now reals) × (from + n ≤ reals.count) × (n ≤ 16) }
+    requires held { Held b.now reals }
+    requires inside { from + n ≤ reals.count }
+    requires few { n ≤ 16 }
     ensures { IsReals result (take n (drop from (reals_at b.now reals))) }
 {
     let at = filled(0.0, n, move |j| real_at(b, reals, from + j));
@@ -50,7 +54,8 @@ fn reals_of(b: &[u8], reals: Section, from: usize, n: usize) -> Reals
 }
 
 fn children_of(kids: &[u64; 1024], i: usize, n: usize) -> Tiles
-    requires { (i < 64) × (n ≤ 16) }
+    requires inside { i < 64 }
+    requires few { n ≤ 16 }
     ensures { IsTiles result (children_at kids.now i n) }
 {
     let at = filled(
@@ -99,7 +104,9 @@ pub fn tabs_slot(
     p: usize,
     n: usize,
 ) -> Slot
-    requires { (Placed b.now t) × (p + n ≤ t.panes.count) × (n ≤ 16) }
+    requires placed { Placed b.now t }
+    requires inside { p + n ≤ t.panes.count }
+    requires few { n ≤ 16 }
     ensures { SlotIs result (tabs placement active (take n (drop p (panes_at b.now t)))) }
 {
     let panes = panes_of(b, t, p, n);
@@ -111,7 +118,9 @@ pub fn tabs_slot(
 }
 
 fn split_slot(axis: Axis, children: Tiles, shares: Reals, minima: Reals) -> Slot
-    requires { (children.len ≤ 16) × (shares.len ≤ 16) × (minima.len ≤ 16) }
+    requires children { children.len ≤ 16 }
+    requires shares { shares.len ≤ 16 }
+    requires minima { minima.len ≤ 16 }
     ensures { SlotIs result (split axis (take children.len children.at) (take shares.len shares.at) (take minima.len minima.at)) }
 {
     Slot {
@@ -131,7 +140,10 @@ pub fn slot_of(
     i: usize,
     taken: Taken,
 ) -> Slot
-    requires { (Placed b.now t) × (Room t (row_is row) taken) × (Fit (row_is row)) × (i < 64) }
+    requires placed { Placed b.now t }
+    requires room { Room t (row_is row) taken }
+    requires fit { Fit (row_is row) }
+    requires inside { i < 64 }
     ensures { SlotIs result (row_node kids.now i (row_is row) (left_at (table_of b.now t) taken)) }
 {
     match row {

@@ -18,7 +18,8 @@ pub fn slots_into(
     shares: &mut [[f64; 16]; 64],
     minima: &mut [[f64; 16]; 64],
 )
-    requires { (Slotted b.now t kids.now end) × (Bare heads.old ids.old shares.old minima.old) }
+    requires slotted { Slotted b.now t kids.now end }
+    requires bare { Bare heads.old ids.old shares.old minima.old }
     ensures { ColumnsAre b.now t kids.now end heads.new ids.new shares.new minima.new }
 {
     let mut taken = Taken::NONE;

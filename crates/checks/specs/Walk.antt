@@ -1,8 +1,9 @@
 -- A walk along the rows of a table, with what is taken so far of each section. Assumes nothing.
-use Rattle.std.specs.Prelude.{◌≡◌, List, ℕ, ◌+◌, ◌≤◌, ◌<◌, length, get_or, drop}
+use Rattle.std.specs.Prelude.{◌≡◌, List, ℕ, ◌+◌, ◌^◌, ◌≤◌, ◌<◌, length, get_or, drop}
 use Rattle.std.proofs.Common.{sym, ap, ◌∙◌, add-one, arith, drop-cons, drop-drop}
 use Rattle.rules.specs.Table.{Row, pane_row, panes_used, shares_used, minima_used, sum_rows, Table, number, real}
 use Rattle.rules.specs.Spec.{after}
+use Rattle.table.specs.Sections.{Placed}
 use Rattle.table.specs.Rows.{row_from, table_of, Used}
 use Rattle.checks.specs.Checks.{left_at, Room}
 use Rattle.checks.specs.Entries.{length-entries}
@@ -42,6 +43,13 @@ along-room bs t i k r w h e =
       shares = omega (arith, w.shares, sum-next shares_used (table_of bs t).rows i h, ap shares_used e, length-entries bs t.shares real);
       minima = omega (arith, w.minima, sum-next minima_used (table_of bs t).rows i h, ap minima_used e, length-entries bs t.minima real);
     }
+
+-- and what is taken then is a number of 64 bits
+pub along-fits : (bs : List ℕ) (t : Places) (i : ℕ) (k : Taken) (r : Row) → Placed bs t → Along (table_of bs t) i k → i < t.rows.count → r ≡ get_or (table_of bs t).rows i pane_row
+    → (k.panes + panes_used r < 2 ^ 64) × (k.shares + shares_used r < 2 ^ 64) × (k.minima + minima_used r < 2 ^ 64)
+along-fits bs t i k r p w h e =
+    let room = along-room bs t i k r w h e in
+    (omega (arith, room.panes, p.panes.few), omega (arith, room.shares, p.shares.few), omega (arith, room.minima, p.minima.few))
 
 -- what is left after the row
 pub left_after : (t : Table) (k : Taken) (r : Row) → after r (left_at t k) ≡ left_at t (taken_with k r)

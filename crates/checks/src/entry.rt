@@ -15,14 +15,16 @@ use table::sections::Places;
 
 // The i-th row. Of a table that was read each is one, so that what is said where there is none does not matter.
 pub fn known_row(b: &[u8], t: Places, i: usize) -> TableRow
-    requires { (Placed b.now t) × (i < t.rows.count) }
+    requires placed { Placed b.now t }
+    requires inside { i < t.rows.count }
     ensures { row_is result ≡ get_or (rows_at b.now t) i pane_row }
 {
     row_at(b, t.rows.start + 8 * i).unwrap_or(TableRow::Pane)
 }
 
 pub fn pane_at(b: &[u8], t: Places, i: usize) -> u64
-    requires { (Placed b.now t) × (i < t.panes.count) }
+    requires placed { Placed b.now t }
+    requires inside { i < t.panes.count }
     ensures { result ≡ get_or (panes_at b.now t) i 0 }
 {
     number::word(b, t.panes.start + 8 * i)
@@ -30,7 +32,8 @@ pub fn pane_at(b: &[u8], t: Places, i: usize) -> u64
 
 // The i-th of a section's reals, shares or minima.
 pub fn real_at(b: &[u8], reals: Section, i: usize) -> f64
-    requires { (Held b.now reals) × (i < reals.count) }
+    requires held { Held b.now reals }
+    requires inside { i < reals.count }
     ensures { result ≡ get_or (reals_at b.now reals) i zero-f }
 {
     number::decode(number::word(b, reals.start + 8 * i))

@@ -19,7 +19,8 @@ use table::sections::Places;
 
 // The panes section, read once: 64 rows of at most 16 have at most 1,024 panes.
 fn load_panes(b: &[u8], t: Places) -> [u64; 1024]
-    requires { (Placed b.now t) × (t.panes.count ≤ 1024) }
+    requires placed { Placed b.now t }
+    requires few { t.panes.count ≤ 1024 }
     ensures { Loaded b.now t result }
 {
     let mut panes = [0u64; 1024];
@@ -83,7 +84,9 @@ fn check_split(
     ns: usize,
     nm: usize,
 ) -> Result<(), Refusal>
-    requires { (Placed b.now t) × (taken.shares + ns ≤ t.shares.count) × (taken.minima + nm ≤ t.minima.count) }
+    requires placed { Placed b.now t }
+    requires shares { taken.shares + ns ≤ t.shares.count }
+    requires minima { taken.minima + nm ≤ t.minima.count }
     ensures { checked_as result ≡ split_refusal n (take ns (drop taken.shares (table_of b.now t).shares)) (take nm (drop taken.minima (table_of b.now t).minima)) }
 {
     if n < 2 {
@@ -118,7 +121,9 @@ fn check_row(
     row: TableRow,
     taken: Taken,
 ) -> Result<(), Refusal>
-    requires { (Placed b.now t) × (Room t (row_is row) taken) × (Loaded b.now t panes.now) }
+    requires placed { Placed b.now t }
+    requires room { Room t (row_is row) taken }
+    requires loaded { Loaded b.now t panes.now }
     ensures { checked_as result ≡ row_refusal (row_is row) (left_at (table_of b.now t) taken) (take taken.panes (panes_at b.now t)) }
 {
     match row {
@@ -135,7 +140,9 @@ fn check_row(
 
 // Every row in preorder: the first refusal is the answer.
 pub fn check_rows(b: &[u8], t: Places) -> Result<(), Refusal>
-    requires { (Placed b.now t) × (Used (table_of b.now t)) × (t.panes.count ≤ 1024) }
+    requires placed { Placed b.now t }
+    requires used { Used (table_of b.now t) }
+    requires few { t.panes.count ≤ 1024 }
     ensures { checked_as result ≡ validate (table_of b.now t).rows (left_of (table_of b.now t)) [] }
 {
     let panes = load_panes(b, t);

@@ -31,8 +31,10 @@ fn built_into(
     shares: &mut [[f64; 16]; 64],
     minima: &mut [[f64; 16]; 64],
 )
-    requires { (Passed b.now t) × (Bare heads.old ids.old shares.old minima.old) }
-    ensures { (arena_from 0 0 heads.new ids.new shares.new minima.new ≡ arena (tile 0) 0 (built_nodes (table_of b.now t))) × (Plain heads.new ids.new shares.new minima.new) }
+    requires passed { Passed b.now t }
+    requires bare { Bare heads.old ids.old shares.old minima.old }
+    ensures shown { arena_from 0 0 heads.new ids.new shares.new minima.new ≡ arena (tile 0) 0 (built_nodes (table_of b.now t)) }
+    ensures plain { Plain heads.new ids.new shares.new minima.new }
 {
     let mut kids = [0u64; 1024];
     let end = push_spec(b, t, &mut kids, 0);

@@ -18,14 +18,16 @@ pub struct Reader<'a> {
 
 // At the first byte.
 pub fn new<'a>(bytes: &'a [u8]) -> Reader<'a>
-    ensures { (result.bytes ≡ bytes.entry) × (result.at ≡ 0) }
+    ensures bytes { result.bytes ≡ bytes.entry }
+    ensures place { result.at ≡ 0 }
 {
     Reader { bytes, at: 0 }
 }
 
 // The same bytes, at another place.
 pub fn moved<'a>(r: Reader<'a>, at: usize) -> Reader<'a>
-    ensures { (result.bytes ≡ r.entry.bytes) × (result.at ≡ at) }
+    ensures bytes { result.bytes ≡ r.entry.bytes }
+    ensures place { result.at ≡ at }
 {
     Reader { bytes: r.bytes, at }
 }

@@ -10,9 +10,9 @@ use Rattle.checks.proofs.validate.check_row.Goals as goal
 pub returns-in-Pane : goal.returns-in-Pane
 returns-in-Pane c =
     let a = c.args in
-    let room = subst (λ (r : TableRow). Room a.t (row_is r) a.taken) c.in-Pane.is c.requires.1 in
-    let front = loaded-front a.b.now a.t a.panes.now c.requires.2 a.taken.panes 1 room.panes in
-    let part = loaded-part a.b.now a.t a.panes.now c.requires.2 a.taken.panes 1 room.panes in
+    let room = subst (λ (r : TableRow). Room a.t (row_is r) a.taken) c.in-Pane.is c.requires.room in
+    let front = loaded-front a.b.now a.t a.panes.now c.requires.loaded a.taken.panes 1 room.panes in
+    let part = loaded-part a.b.now a.t a.panes.now c.requires.loaded a.taken.panes 1 room.panes in
     grind (arith, common_steps, front, part)
 
 pub returns-in-Tabs : goal.returns-in-Tabs

@@ -1,24 +1,21 @@
 -- `checks::validate::check_rows`: the walk of validation, with what is left of the sections. Assumes nothing.
 use Rattle.std.proofs.Common.{arith, refl, sym, ap, subst, ◌∙◌, ◌+◌, ◌<◌, length}
 use Rattle.std.proofs.lemmas.Grind.{common_steps}
-use Rattle.table.specs.Row.{row_is}
 use Rattle.table.specs.Rows.{row_from, table_of}
 use Rattle.table.specs.declared.row.Taken.{Taken}
 use Rattle.checks.specs.Checks.{checked_as}
 use Rattle.checks.specs.Entries.{length-entries}
-use Rattle.checks.specs.Walk.{Along, along-start, along-more, along-room}
+use Rattle.checks.specs.Walk.{Along, along-start, along-more, along-room, along-fits}
 use Rattle.checks.specs.SplitLaws.{Checking, checking-bad, checking-more, checking-end}
 use Rattle.checks.proofs.validate.check_rows.Goals as goal
 
 pub loop-i-init : goal.loop-i-init
-loop-i-init c = (along-start _ c.requires.1, refl)
+loop-i-init c = (along-start _ c.requires.used, refl)
 
-pub check_row-requires : goal.check_row-requires
-check_row-requires c =
+pub check_row-requires-clause-room : goal.check_row-requires-clause-room
+check_row-requires-clause-room c =
     let a = c.args in
-    let l = c.loop-i in
-    let room = along-room a.b.now a.t l.i l.taken (row_is c.known_row-row.result) l.invariant.0 (omega arith) c.known_row-row.ensures in
-    (c.requires.0, room, c.load_panes-panes.ensures)
+    along-room a.b.now a.t c.loop-i.i c.loop-i.taken _ c.loop-i.invariant.0 c.loop-i-test.true c.known_row-row.ensures
 
 pub returns-in_err-check_row : goal.returns-in_err-check_row
 returns-in_err-check_row c =
@@ -29,25 +26,13 @@ returns-in_err-check_row c =
     grind (arith, common_steps, bad)
 
 pub with-taken-requires-clause-panes : goal.with-taken-requires-clause-panes
-with-taken-requires-clause-panes c =
-    let a = c.args in
-    let l = c.loop-i in
-    let room = along-room a.b.now a.t l.i l.taken (row_is c.known_row-row.result) l.invariant.0 (omega arith) c.known_row-row.ensures in
-    omega (arith, room.panes, c.requires.0.panes.few)
+with-taken-requires-clause-panes c = (along-fits _ _ _ _ _ c.requires.placed c.loop-i.invariant.0 c.loop-i-test.true c.known_row-row.ensures).0
 
 pub with-taken-requires-clause-shares : goal.with-taken-requires-clause-shares
-with-taken-requires-clause-shares c =
-    let a = c.args in
-    let l = c.loop-i in
-    let room = along-room a.b.now a.t l.i l.taken (row_is c.known_row-row.result) l.invariant.0 (omega arith) c.known_row-row.ensures in
-    omega (arith, room.shares, c.requires.0.shares.few)
+with-taken-requires-clause-shares c = (along-fits _ _ _ _ _ c.requires.placed c.loop-i.invariant.0 c.loop-i-test.true c.known_row-row.ensures).1
 
 pub with-taken-requires-clause-minima : goal.with-taken-requires-clause-minima
-with-taken-requires-clause-minima c =
-    let a = c.args in
-    let l = c.loop-i in
-    let room = along-room a.b.now a.t l.i l.taken (row_is c.known_row-row.result) l.invariant.0 (omega arith) c.known_row-row.ensures in
-    omega (arith, room.minima, c.requires.0.minima.few)
+with-taken-requires-clause-minima c = (along-fits _ _ _ _ _ c.requires.placed c.loop-i.invariant.0 c.loop-i-test.true c.known_row-row.ensures).2
 
 pub loop-i-preserved : goal.loop-i-preserved
 loop-i-preserved c =

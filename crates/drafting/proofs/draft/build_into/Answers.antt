@@ -14,14 +14,14 @@ returns-then-t-gt64 c = built-refused _ _ _ _ _ _ _ (grind (arith, common_steps,
 pub returns-then-too_wide : goal.returns-then-too_wide
 returns-then-too_wide c = built-refused _ _ _ _ _ _ _ (grind (arith, common_steps, draft-wide))
 
-pub check_rows-requires : goal.check_rows-requires
-check_rows-requires c = grind (arith, common_steps, panes-few)
+pub check_rows-requires-clause-few : goal.check_rows-requires-clause-few
+check_rows-requires-clause-few c = grind (arith, common_steps, panes-few)
 
 pub returns-in-Err : goal.returns-in-Err
 returns-in-Err c = built-refused _ _ _ _ _ _ _ (grind (arith, common_steps, draft-refused))
 
-pub built_into-requires : goal.built_into-requires
-built_into-requires c = grind (arith, common_steps, passed)
+pub built_into-requires-clause-passed : goal.built_into-requires-clause-passed
+built_into-requires-clause-passed c = grind (arith, common_steps, passed)
 
 pub returns : goal.returns
-returns c = built-accepted _ _ _ _ _ _ _ (grind (arith, common_steps, draft-built)) c.built_into.ensures
+returns c = built-accepted _ _ _ _ _ _ _ (grind (arith, common_steps, draft-built)) (c.built_into.ensures.shown, c.built_into.ensures.plain)
