@@ -12,24 +12,25 @@ ghost use Rattle.build.specs.Push.{children_at, row_node};
 ghost use Rattle.build.specs.Slots.{Fit, SlotIs};
 
 use checks::entry::{pane_at, real_at};
+use lists::blank::Blank;
 use reader::cursor::Section;
-use rules::model::{Axis, Ids, Kind, Reals, Slot, TabBarPlacement, TileId, Tiles};
+use rules::model::{Axis, Ids, Kind, Reals, Sixteen, Slot, TabBarPlacement, TileId, Tiles};
 use table::row::{TableRow, Taken};
 use table::sections::Places;
 
-// The 16 places of a list: n entries, each made of its number, and d past them.
-fn filled<T: Copy, F: Fn(usize) -> T>(d: T, n: usize, entry: F) -> [T; 16]
+// A list of n entries, each made of its number.
+fn filled<T: Blank, F: Fn(usize) -> T>(n: usize, entry: F) -> Sixteen<T>
     ghost nth: { ℕ → T }
     requires few { n ≤ 16 }
     requires callable { (j : ℕ) → j < n → F.pre entry j }
     requires entries { (j : ℕ) (x : T) → j < n → F.post entry j x → x ≡ nth j }
-    ensures { Exactly d result n (tabulate nth n) }
+    ensures { Exactly T.blank result.at result.len (tabulate nth n) }
 {
-    let mut at = [d; 16];
+    let mut at = [T::blank(); 16];
     for j in 0..n {
         at[j] = entry(j);
     }
-    at
+    Sixteen { at, len: n }
 }
 
 fn panes_of(b: &[u8], t: Places, p: usize, n: usize) -> Ids
@@ -38,8 +39,7 @@ fn panes_of(b: &[u8], t: Places, p: usize, n: usize) -> Ids
     requires few { n ≤ 16 }
     ensures { IsIds result (take n (drop p (panes_at b.now t))) }
 {
-    let at = filled(0, n, move |j| pane_at(b, t, p + j));
-    Ids { at, len: n }
+    filled(n, move |j| pane_at(b, t, p + j))
 }
 
 // n of a section's shares or minima, after the first from.
@@ -49,8 +49,7 @@ fn reals_of(b: &[u8], reals: Section, from: usize, n: usize) -> Reals
     requires few { n ≤ 16 }
     ensures { IsReals result (take n (drop from (reals_at b.now reals))) }
 {
-    let at = filled(0.0, n, move |j| real_at(b, reals, from + j));
-    Reals { at, len: n }
+    filled(n, move |j| real_at(b, reals, from + j))
 }
 
 fn children_of(kids: &[u64; 1024], i: usize, n: usize) -> Tiles
@@ -58,14 +57,12 @@ fn children_of(kids: &[u64; 1024], i: usize, n: usize) -> Tiles
     requires few { n ≤ 16 }
     ensures { IsTiles result (children_at kids.now i n) }
 {
-    let at = filled(
-        TileId { slot: 0 },
+    filled(
         n,
         |j| TileId {
             slot: kids[16 * i + j],
         },
-    );
-    Tiles { at, len: n }
+    )
 }
 
 // A slot of a kind, with empty lists.
@@ -77,14 +74,13 @@ fn empty_slot(kind: Kind) -> Slot
     ensures shares { IsReals result.shares [] }
     ensures minima { IsReals result.minima [] }
 {
-    let reals = real_lists::reals::empty();
     Slot {
         kind,
         active: 0,
-        panes: lists::ids::empty(),
-        children: tile_lists::tiles::empty(),
-        shares: reals,
-        minima: reals,
+        panes: lists::empty(),
+        children: lists::empty(),
+        shares: lists::empty(),
+        minima: lists::empty(),
     }
 }
 

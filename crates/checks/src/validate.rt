@@ -11,7 +11,6 @@ ghost use Rattle.table.specs.Rows.{panes_at, reals_at, table_of, Used};
 ghost use Rattle.checks.specs.Checks.{checked_as, left_at, Room, Loaded};
 
 use crate::entry::{known_row, pane_at, real_at};
-use lists::Place;
 use reader::cursor::Section;
 use rules::refusal::Refusal;
 use table::row::{TableRow, Taken};
@@ -59,7 +58,13 @@ fn check_tabs(panes: &[u64; 1024], p: usize, n: usize, active: usize) -> Result<
 }
 
 // `position` of the first of n reals, after the first from, that is not good.
-fn first_bad<F: Fn(f64) -> bool>(b: &[u8], reals: Section, from: usize, n: usize, good: F) -> Place
+fn first_bad<F: Fn(f64) -> bool>(
+    b: &[u8],
+    reals: Section,
+    from: usize,
+    n: usize,
+    good: F,
+) -> Option<usize>
     ghost test: { Float → Bool }
     requires held { Held b.now reals }
     requires inside { from + n ≤ reals.count }
@@ -69,10 +74,10 @@ fn first_bad<F: Fn(f64) -> bool>(b: &[u8], reals: Section, from: usize, n: usize
 {
     for i in 0..n {
         if !good(real_at(b, reals, from + i)) {
-            return Place::At(i);
+            return Some(i);
         }
     }
-    Place::Nothing
+    None
 }
 
 // The arm of TileSpec::Split, up to its children: n of them, with ns shares and nm minima after those that are taken.
@@ -98,7 +103,7 @@ fn check_split(
             shares: ns,
         });
     }
-    if let Place::At(index) = first_bad(b, t.shares, taken.shares, ns, number::share_ok) {
+    if let Some(index) = first_bad(b, t.shares, taken.shares, ns, number::share_ok) {
         return Err(Refusal::InvalidShare { index });
     }
     if n < nm {
@@ -107,7 +112,7 @@ fn check_split(
             constraints: nm,
         });
     }
-    if let Place::At(index) = first_bad(b, t.minima, taken.minima, nm, number::minimum_ok) {
+    if let Some(index) = first_bad(b, t.minima, taken.minima, nm, number::minimum_ok) {
         return Err(Refusal::InvalidSplitConstraint { index });
     }
     Ok(())

@@ -1,13 +1,13 @@
 -- The draft, by each test of the code. Assumes nothing.
 use Rattle.std.specs.Prelude.{◌≡◌, refl, Bool, true, false, List, [], ℕ, ◌≤◌, ◌<◌, ltb, Float, length}
-use Rattle.std.proofs.Common.{sym, ◌∙◌, arith, lt-ltb, le-ltb}
+use Rattle.std.proofs.Common.{sym, subst, ◌∙◌, arith, lt-ltb, le-ltb}
 use Rattle.std.proofs.Math.Path.{ap}
 use Rattle.std.proofs.Math.Option.{Option, none, some}
 use Rattle.rules.specs.Lists.{any_of}
 use Rattle.rules.specs.Tree.{Arena, arena, tile}
 use Rattle.rules.specs.Table.{read_table}
 use Rattle.rules.specs.Spec.{left_of, validate, Built, Build, padded, built_nodes, refused_spec, wide_row}
-use Rattle.rules.specs.declared.refusal.Answer.TheVariants.{Accepted, Refused}
+use Rattle.rules.specs.Refusals.{Answer, Accepted, Refused}
 use Rattle.rules.specs.declared.refusal.Refusal.{Refusal}
 use Rattle.rules.specs.declared.refusal.Refusal.TheVariants.{BadTable, ArenaFull, TooWide}
 use Rattle.columns.specs.Columns.{nodes_from}
@@ -63,6 +63,9 @@ built-refused b e root hs xs ss ms p =
   where
     no : Refused e ≡ Accepted → ⊥
     no q = let z : ◌≡◌ {A = ℕ} 0 1 = cc in omega arith
+
+pub built-said : (b : Built) (a : Answer) (e : Refusal) (root : ℕ) (hs xs : List (List ℕ)) (ss ms : List (List Float)) → a ≡ Refused e → refused_spec e ≡ b → BuiltIn b a root hs xs ss ms
+built-said b a e root hs xs ss ms q p = subst (λ (y : Answer). BuiltIn b y root hs xs ss ms) (sym q) (built-refused b e root hs xs ss ms p)
 
 pub built-accepted : (b : Built) (root : ℕ) (hs xs : List (List ℕ)) (ss ms : List (List Float)) (a : Arena) → b ≡ record { answer = Accepted; tree = a }
     → (arena_from root 0 hs xs ss ms ≡ a) × Plain hs xs ss ms → BuiltIn b Accepted root hs xs ss ms

@@ -52,18 +52,14 @@ pub fn build_into(
     requires { Bare heads.old ids.old shares.old minima.old }
     ensures { BuiltIn (draft_of b.now) result 0 heads.new ids.new shares.new minima.new }
 {
-    let Some(t) = read_table(b) else {
-        return Answer::Refused(Refusal::BadTable);
-    };
+    let t = read_table(b).ok_or(Refusal::BadTable)?;
     if 64 < t.rows.count {
-        return Answer::Refused(Refusal::ArenaFull);
+        return Err(Refusal::ArenaFull);
     }
     if too_wide(b, t) {
-        return Answer::Refused(Refusal::TooWide);
+        return Err(Refusal::TooWide);
     }
-    if let Err(e) = check_rows(b, t) {
-        return Answer::Refused(e);
-    }
+    check_rows(b, t)?;
     built_into(b, t, heads, ids, shares, minima);
-    Answer::Accepted
+    Ok(())
 }

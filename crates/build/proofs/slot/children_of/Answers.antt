@@ -9,4 +9,4 @@ use Rattle.build.proofs.slot.children_of.Goals as goal
 pub returns : goal.returns
 returns c =
     let a = c.args in
-    subst (λ (l : List TileId). Exactly (tile 0) c.filled-at.result a.n l) (part-made tile a.kids.now (16 * a.i) a.n 0 (omega arith)) c.filled-at.ensures
+    subst (λ (l : List TileId). Exactly (tile 0) c.filled.result.at c.filled.result.len l) (part-made tile a.kids.now (16 * a.i) a.n 0 (omega arith)) c.filled.ensures

@@ -10,4 +10,4 @@ use Rattle.build.proofs.slot.panes_of.Goals as goal
 pub returns : goal.returns
 returns c =
     let a = c.args in
-    subst (λ (l : List ℕ). Exactly 0 c.filled-at.result a.n l) (part-taken (panes_at a.b.now a.t) a.p a.n 0 (omega (arith, length-entries a.b.now a.t.panes number))) c.filled-at.ensures
+    subst (λ (l : List ℕ). Exactly 0 c.filled.result.at c.filled.result.len l) (part-taken (panes_at a.b.now a.t) a.p a.n 0 (omega (arith, length-entries a.b.now a.t.panes number))) c.filled.ensures

@@ -12,4 +12,4 @@ pub returns : goal.returns
 unfolding of_bits
 returns c =
     let a = c.args in
-    subst (λ (l : List Float). Exactly zero-f c.filled-at.result a.n l) (part-taken (reals_at a.b.now a.reals) a.from a.n zero-f (reals-part a.b.now a.reals a.from a.n c.requires.inside)) c.filled-at.ensures
+    subst (λ (l : List Float). Exactly zero-f c.filled.result.at c.filled.result.len l) (part-taken (reals_at a.b.now a.reals) a.from a.n zero-f (reals-part a.b.now a.reals a.from a.n c.requires.inside)) c.filled.ensures
