@@ -32,9 +32,9 @@ left_over (r ∷ rs) l = left_over rs (after r l)
 -- what push_spec asks: few rows, none of them wide, and room for 16 children of each
 pub record Ready (bs : List ℕ) (t : Places) (kids : List ℕ) (at : ℕ) : Type 0 where
   pub placed : Placed bs t
-  pub few : t.row_count ≤ 64
+  pub few : t.rows.count ≤ 64
   pub narrow : any_of wide_row (rows_at bs t) ≡ false
-  pub within : at ≤ t.row_count
+  pub within : at ≤ t.rows.count
   pub size : length kids ≡ 1024
 
 -- what it says: the rules' push_spec, from any state that has come to the row `at`, comes to the row r, and adds a node for each row between

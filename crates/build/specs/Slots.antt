@@ -27,9 +27,9 @@ pub record Fit (r : Row) : Type 0 where
 pub record Slotted (bs : List ℕ) (t : Places) (kids : List ℕ) (end : ℕ) : Type 0 where
   pub placed : Placed bs t
   pub used : Used (table_of bs t)
-  pub fit : (i : ℕ) → i < t.row_count → Fit (get_or (table_of bs t).rows i pane_row)
-  pub few : t.row_count ≤ 64
-  pub within : end ≤ t.row_count
+  pub fit : (i : ℕ) → i < t.rows.count → Fit (get_or (table_of bs t).rows i pane_row)
+  pub few : t.rows.count ≤ 64
+  pub within : end ≤ t.rows.count
   pub size : length kids ≡ 1024
 
 -- columns of 64 rows that show no tile

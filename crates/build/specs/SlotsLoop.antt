@@ -10,7 +10,7 @@ use Rattle.std.proofs.Math.Seq.{slice, slice-cons, length-take-le, take-suc}
 use Rattle.rules.specs.Lists.{any_of, position}
 use Rattle.rules.specs.Numbers.{share_ok, minimum_ok}
 use Rattle.rules.specs.Tree.{Node, empty, view_slot}
-use Rattle.rules.specs.Table.{Row, pane_row, tabs_row, split_row, panes_used, shares_used, minima_used, sum_rows, Table}
+use Rattle.rules.specs.Table.{Row, pane_row, tabs_row, split_row, shares_used, minima_used, sum_rows, Table}
 use Rattle.rules.specs.Spec.{Left, after, left_of, wide_row, row_panes, row_refusal, first_refusal, validate, refuse_if, refuse_at}
 use Rattle.rules.specs.declared.model.Slot.{Slot}
 use Rattle.rules.specs.declared.refusal.Refusal.{Refusal}
@@ -28,6 +28,8 @@ use Rattle.build.specs.Push.{row_node, nodes_from}
 use Rattle.build.specs.PushLaws.{length-nodes}
 use Rattle.forest.specs.Bools.{or_left, or_right}
 use Rattle.build.specs.Slots.{SlotIs, Fit, Slotted, Bare, ColumnsAre}
+use Rattle.table.specs.Taken.{taken_none, taken_with}
+use Rattle.table.specs.declared.row.Taken.{Taken}
 use Rattle.table.specs.declared.sections.Places.{Places}
 
 pub any-replicate : {A : Type 0} (f : A → Bool) (n : ℕ) (x : A) → f x ≡ false → any_of f (replicate n x) ≡ false
@@ -52,57 +54,57 @@ pad-as (suc n) d (x ∷ xs) h =
 abbrev all : List ℕ → Places → List ℕ → ℕ → List Node
 all bs t kids end = nodes_from kids 0 (take end (table_of bs t).rows) (left_of (table_of bs t))
 
-pub record Slotting (bs : List ℕ) (t : Places) (kids : List ℕ) (end i p s m : ℕ) (hs xs : List (List ℕ)) (ss ms : List (List Float)) : Type 0 where
+pub record Slotting (bs : List ℕ) (t : Places) (kids : List ℕ) (end i : ℕ) (k : Taken) (hs xs : List (List ℕ)) (ss ms : List (List Float)) : Type 0 where
   pub within : i ≤ end
-  pub along : Along (table_of bs t) i p s m
+  pub along : Along (table_of bs t) i k
   pub view : C.nodes_from hs xs ss ms ≡ pad_to 64 empty (take i (all bs t kids end))
-  pub rest : drop i (all bs t kids end) ≡ nodes_from kids i (slice i end (table_of bs t).rows) (left_at (table_of bs t) p s m)
+  pub rest : drop i (all bs t kids end) ≡ nodes_from kids i (slice i end (table_of bs t).rows) (left_at (table_of bs t) k)
   pub even : Even hs xs ss ms
 
 module _ (bs : List ℕ) (t : Places) (kids : List ℕ) (end : ℕ) (z : Slotted bs t kids end) where
   abbrev T : Table
   T = table_of bs t
 
-  rows-size : length T.rows ≡ t.row_count
-  rows-size = length-entries bs t.rows t.row_count row_from
+  rows-size : length T.rows ≡ t.rows.count
+  rows-size = length-entries bs t.rows row_from
 
   all-size : length (all bs t kids end) ≡ end
   all-size =
-      let w : end ≤ t.row_count = z.within in
+      let w : end ≤ t.rows.count = z.within in
       length-nodes kids 0 (take end T.rows) (left_of T) ∙ length-take-le end T.rows (omega (arith, rows-size))
 
-  pub slotting-start : (hs xs : List (List ℕ)) (ss ms : List (List Float)) → Bare hs xs ss ms → Slotting bs t kids end 0 0 0 0 hs xs ss ms
+  pub slotting-start : (hs xs : List (List ℕ)) (ss ms : List (List Float)) → Bare hs xs ss ms → Slotting bs t kids end 0 taken_none hs xs ss ms
   slotting-start hs xs ss ms e = record { within = omega arith; along = along-start T z.used; view = e.none; rest = refl; even = e.even }
 
-  module _ (i p s m : ℕ) (hs xs : List (List ℕ)) (ss ms : List (List Float)) (w : Slotting bs t kids end i p s m hs xs ss ms) where
-    pub slotting-more : i < end → (r : Row) (a b c : ℕ) (x : Slot) (hs' xs' : List (List ℕ)) (ss' ms' : List (List Float)) → r ≡ get_or T.rows i pane_row → a ≡ panes_used r → b ≡ shares_used r → c ≡ minima_used r
-        → SlotIs x (row_node kids i r (left_at T p s m)) → Puts i x hs xs ss ms hs' xs' ss' ms' → Slotting bs t kids end (i + 1) (p + a) (s + b) (m + c) hs' xs' ss' ms'
+  module _ (i : ℕ) (k : Taken) (hs xs : List (List ℕ)) (ss ms : List (List Float)) (w : Slotting bs t kids end i k hs xs ss ms) where
+    pub slotting-more : i < end → (r : Row) (x : Slot) (hs' xs' : List (List ℕ)) (ss' ms' : List (List Float)) → r ≡ get_or T.rows i pane_row
+        → SlotIs x (row_node kids i r (left_at T k)) → Puts i x hs xs ss ms hs' xs' ss' ms' → Slotting bs t kids end (i + 1) (taken_with k r) hs' xs' ss' ms'
     unfolding nodes_from
-    slotting-more h r a b c x hs' xs' ss' ms' e u v y n P =
-        let y1 : end ≤ t.row_count = z.within in
-        let y2 : t.row_count ≤ 64 = z.few in
-        let y3 : length T.rows ≡ t.row_count = rows-size in
+    slotting-more h r x hs' xs' ss' ms' e n P =
+        let y1 : end ≤ t.rows.count = z.within in
+        let y2 : t.rows.count ≤ 64 = z.few in
+        let y3 : length T.rows ≡ t.rows.count = rows-size in
         let y4 : length (all bs t kids end) ≡ end = all-size in
-        let here : drop i (all bs t kids end) ≡ view_slot x ∷ nodes_from kids (suc i) (slice (suc i) end T.rows) (after r (left_at T p s m)) =
-        w.rest ∙ ap (λ (rs : List Row). nodes_from kids i rs (left_at T p s m)) (slice-cons i end T.rows pane_row h (omega arith) ∙ ap (λ (q : Row). q ∷ slice (suc i) end T.rows) (sym e))
-        ∙ ap (λ (q : Node). q ∷ nodes_from kids (suc i) (slice (suc i) end T.rows) (after r (left_at T p s m))) (sym n.view) in
+        let here : drop i (all bs t kids end) ≡ view_slot x ∷ nodes_from kids (suc i) (slice (suc i) end T.rows) (after r (left_at T k)) =
+        w.rest ∙ ap (λ (rs : List Row). nodes_from kids i rs (left_at T k)) (slice-cons i end T.rows pane_row h (omega arith) ∙ ap (λ (q : Row). q ∷ slice (suc i) end T.rows) (sym e))
+        ∙ ap (λ (q : Node). q ∷ nodes_from kids (suc i) (slice (suc i) end T.rows) (after r (left_at T k))) (sym n.view) in
         let at : get_or (all bs t kids end) i empty ≡ view_slot x =
         ap (λ (k : ℕ). get_or (all bs t kids end) k empty) (let q : i ≡ i + 0 = omega arith in q) ∙ sym (get_or-drop i (all bs t kids end) 0 empty) ∙ ap (λ (l : List Node). get_or l 0 empty) here in
         let size : length (take i (all bs t kids end)) ≡ i = length-take-le i (all bs t kids end) (omega arith) in
         record {
           within = omega arith;
-          along = along-more T i p s m r a b c w.along (omega arith) e u v y;
+          along = along-more T i k r w.along (omega arith) e;
           view = put-nodes hs xs ss ms w.even i x hs' xs' ss' ms' P ∙ (λ j. set (w.view j) (sym size j) (view_slot x)) ∙ set-pad_to 64 empty (take i (all bs t kids end)) (view_slot x) (omega arith)
               ∙ ap (pad_to 64 empty) (sym (ap (λ (k : ℕ). take k (all bs t kids end)) (add-one i) ∙ take-suc (all bs t kids end) i empty (omega arith) ∙ ap (λ (q : Node). take i (all bs t kids end) ++ q ∷ []) at));
           rest = sym (drop-drop 1 i (all bs t kids end)) ∙ ap (drop 1) here
-              ∙ (λ j. nodes_from kids (sym (add-one i) j) (slice (sym (add-one i) j) end T.rows) (left_after T p s m a b c r u v y j));
+              ∙ (λ j. nodes_from kids (sym (add-one i) j) (slice (sym (add-one i) j) end T.rows) (left_after T k r j));
           even = put-even hs xs ss ms w.even i x hs' xs' ss' ms' P n.fits;
         }
 
     pub slotting-end : end ≤ i → ColumnsAre bs t kids end hs xs ss ms
     slotting-end h =
-        let y1 : end ≤ t.row_count = z.within in
-        let y2 : t.row_count ≤ 64 = z.few in
+        let y1 : end ≤ t.rows.count = z.within in
+        let y2 : t.rows.count ≤ 64 = z.few in
         let y4 : length (all bs t kids end) ≡ end = all-size in
         record { view = w.view ∙ ap (pad_to 64 empty) (take_all i (all bs t kids end) (omega arith)) ∙ pad-as 64 empty (all bs t kids end) (omega arith); even = w.even }
 

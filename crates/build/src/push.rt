@@ -13,18 +13,14 @@ pub fn push_spec(b: &[u8], t: Places, kids: &mut [u64; 1024], at: usize) -> usiz
     requires { Ready b.now t kids.old at }
     ensures { Pushed (rows_at b.now t) kids.old kids.new at result }
 {
-    if t.row_count <= at {
+    if t.rows.count <= at {
         return at;
     }
-    let row = known_row(b, t, at);
-    let n = children_used(row);
+    let n = children_used(known_row(b, t, at));
     let mut next = at + 1;
-    let mut left = n;
-    while 0 < left {
-        let j = n - left;
+    for j in 0..n {
         kids[16 * at + j] = next as u64;
         next = push_spec(b, t, kids, next);
-        left -= 1;
     }
     next
 }

@@ -4,7 +4,7 @@ ghost use Rattle.build.specs.Slots.{Slotted, Bare, ColumnsAre};
 use crate::slot::slot_of;
 use checks::entry::known_row;
 use columns::unpack::put;
-use table::row::{minima_used, panes_used, shares_used};
+use table::row::Taken;
 use table::sections::Places;
 
 // The slots of the first `end` rows, as many as push_spec came to, into columns that show none.
@@ -18,20 +18,15 @@ pub fn slots_into(
     shares: &mut [[f64; 16]; 64],
     minima: &mut [[f64; 16]; 64],
 )
-    requires { (Slotted b.now t kids.now end) × (Bare heads.old ids.old shares.old minima.old) }
+    requires slotted { Slotted b.now t kids.now end }
+    requires bare { Bare heads.old ids.old shares.old minima.old }
     ensures { ColumnsAre b.now t kids.now end heads.new ids.new shares.new minima.new }
 {
-    let mut i = 0usize;
-    let mut p = 0usize;
-    let mut s = 0usize;
-    let mut m = 0usize;
-    while i < end {
+    let mut taken = Taken::NONE;
+    for i in 0..end {
         let row = known_row(b, t, i);
-        let slot = slot_of(b, t, kids, row, i, p, s, m);
+        let slot = slot_of(b, t, kids, row, i, taken);
         put(heads, ids, shares, minima, i, slot);
-        p += panes_used(row);
-        s += shares_used(row);
-        m += minima_used(row);
-        i += 1;
+        taken = taken.with(row);
     }
 }

@@ -1,5 +1,5 @@
 -- Validation, by each test of the code. Assumes nothing.
-use Rattle.std.specs.Prelude.{◌≡◌, Bool, true, false, List, [], ◌∷◌, ◌++◌, leb, length, get_or, take}
+use Rattle.std.specs.Prelude.{◌≡◌, refl, Bool, true, false, ◌||◌, eqb, List, [], ◌∷◌, ◌++◌, leb, length, get_or, take}
 use Rattle.std.proofs.Math.Path.{sym, ap}
 use Rattle.std.proofs.Common.{◌∙◌, eq-eqb, ne_eqb, le-leb, length-drop, drop-cons, take-suc, length-take-le, get_or-take, get_or-drop}
 use Rattle.std.proofs.Math.Option.{Option, none, some}
@@ -7,24 +7,34 @@ use Prim.Native.Nat.{ℕ, suc, ◌+◌, ◌-◌, ◌≤◌, ◌<◌}
 use native.Mathlib.Omega.{arith}
 use Rattle.std.proofs.lemmas.Bool.{lt-leb}
 use Rattle.std.proofs.Math.ListN.{drop}
-use Rattle.rules.specs.Lists.{contains, position}
+use Rattle.rules.specs.Lists.{any_of, contains, position}
+use Rattle.std.specs.List.{list_any}
+use Rattle.std.proofs.lemmas.Bool.Decides.{nat_tests}
 use Rattle.lists.specs.Find.{Passed, passed-found, passed-more, passed-all}
 use Rattle.rules.specs.Spec.{refuse_if, duplicate, tabs_refusal}
 use Rattle.rules.specs.declared.refusal.Refusal.{Refusal}
 use Rattle.rules.specs.declared.refusal.Refusal.TheVariants.{DuplicatePane, EmptyTabs, InvalidActiveTab}
 
--- neither of two tests holds
 -- a part of a list that is all there
 pub part_length : {A : Type 0} (xs : List A) (p n : ℕ) → p + n ≤ length xs → length (take n (drop p xs)) ≡ n
 part_length xs p n h = length-take-le n (drop p xs) (omega (arith, length-drop p xs))
 
-module _ (xs : List ℕ) (p n : ℕ) (fits : p + n ≤ length xs) where
-  -- k of the n panes after the first p are new
-  pub record Fresh (k : ℕ) : Type 0 where
-    pub within : k ≤ n
-    pub rest : duplicate (take (p + k) xs) (take (n - k) (drop (p + k) xs)) ≡ duplicate (take p xs) (take n (drop p xs))
+-- std's `contains` is the rules'
+same-test : (x y : ℕ) → eqb y x ≡ eqb x y
+same-test x y = grind (arith, nat_tests)
 
-  pub fresh_start : Fresh 0
+pub seen : (x : ℕ) (ys : List ℕ) → list_any (λ y. eqb y x) ys ≡ contains x ys
+unfolding any_of
+seen x [] = refl
+seen x (y ∷ ys) = λ j. same-test x y j || seen x ys j
+
+-- k of the n panes after the first p are new
+pub record Fresh (xs : List ℕ) (p n k : ℕ) : Type 0 where
+  pub within : k ≤ n
+  pub rest : duplicate (take (p + k) xs) (take (n - k) (drop (p + k) xs)) ≡ duplicate (take p xs) (take n (drop p xs))
+
+module _ (xs : List ℕ) (p n : ℕ) (fits : p + n ≤ length xs) where
+  pub fresh_start : Fresh xs p n 0
   fresh_start = record { within = omega arith; rest = λ j. duplicate (take (same p j) xs) (take (less n j) (drop (same p j) xs)) }
     where
       same : (x : ℕ) → x + 0 ≡ x
@@ -33,7 +43,7 @@ module _ (xs : List ℕ) (p n : ℕ) (fits : p + n ≤ length xs) where
       less : (x : ℕ) → x - 0 ≡ x
       less x = omega arith
 
-  module _ (k : ℕ) (w : Fresh k) (h : k < n) (x : ℕ) (e : x ≡ get_or xs (p + k) 0) where
+  module _ (k : ℕ) (w : Fresh xs p n k) (h : k < n) (x : ℕ) (e : x ≡ get_or xs (p + k) 0) where
     next : duplicate (take (p + k) xs) (take (n - k) (drop (p + k) xs))
         ≡ refuse_if (contains x (take (p + k) xs)) (DuplicatePane x) (duplicate (take (p + k) xs ++ x ∷ []) (take (n - k - 1) (drop (suc (p + k)) xs)))
     unfolding duplicate
@@ -44,7 +54,7 @@ module _ (xs : List ℕ) (p n : ℕ) (fits : p + n ≤ length xs) where
     pub fresh-not : true ≡ contains x (take (p + k) xs) → some (DuplicatePane x) ≡ duplicate (take p xs) (take n (drop p xs))
     fresh-not f = ap (λ (b : Bool). refuse_if b (DuplicatePane x) (duplicate (take (p + k) xs ++ x ∷ []) (take (n - k - 1) (drop (suc (p + k)) xs)))) f ∙ sym next ∙ w.rest
 
-    pub fresh-more : false ≡ contains x (take (p + k) xs) → Fresh (k + 1)
+    pub fresh-more : false ≡ contains x (take (p + k) xs) → Fresh xs p n (k + 1)
     fresh-more f =
         let a : p + (k + 1) ≡ suc (p + k) = omega arith in
         let b : n - (k + 1) ≡ n - k - 1 = omega arith in
@@ -55,7 +65,7 @@ module _ (xs : List ℕ) (p n : ℕ) (fits : p + n ≤ length xs) where
               ∙ ap (λ (b : Bool). refuse_if b (DuplicatePane x) (duplicate (take (p + k) xs ++ x ∷ []) (take (n - k - 1) (drop (suc (p + k)) xs)))) f ∙ sym next ∙ w.rest;
         }
 
-  pub fresh-end : (k : ℕ) → Fresh k → n ≤ k → none ≡ duplicate (take p xs) (take n (drop p xs))
+  pub fresh-end : (k : ℕ) → Fresh xs p n k → n ≤ k → none ≡ duplicate (take p xs) (take n (drop p xs))
   unfolding duplicate
   fresh-end k w h =
       let z : n - k ≡ 0 = omega arith in

@@ -13,6 +13,7 @@ use Rattle.number.specs.Bytes.{le_number}
 use Rattle.lists.specs.Places.{get_d_map}
 use Rattle.table.specs.Row.{row_or}
 use Rattle.reader.specs.Section.{chunks_at}
+use Rattle.reader.specs.declared.cursor.Section.{Section}
 use Rattle.table.specs.Rows.{row_from, reals_at}
 use Rattle.table.specs.RowsLaws.{length-chunks, chunk-at}
 
@@ -21,20 +22,24 @@ unfolding le_number little_endian
 same_number [] = refl
 same_number (b ∷ l) = ap (λ (n : ℕ). b + 256 * n) (same_number l)
 
-module _ (bs : List ℕ) (p n : ℕ) where
-  entry : {B : Type 0} (f : List ℕ → B) (i : ℕ) (d : B) → i < n → get_or (map f (chunks_at bs p n)) i d ≡ f (take 8 (drop (p + 8 * i) bs))
-  entry f i d h = get_d_map f (chunks_at bs p n) i [] d (omega (arith, length-chunks 8 n (drop p bs))) ∙ ap f (chunk-at bs p n i [] h)
+module _ (bs : List ℕ) (s : Section) where
+  entry : {B : Type 0} (f : List ℕ → B) (i : ℕ) (d : B) → i < s.count → get_or (map f (chunks_at bs s)) i d ≡ f (take 8 (drop (s.start + 8 * i) bs))
+  entry f i d h = get_d_map f (chunks_at bs s) i [] d (omega (arith, length-chunks 8 s.count (drop s.start bs))) ∙ ap f (chunk-at bs s i [] h)
 
-  pub length-entries : {B : Type 0} (f : List ℕ → B) → length (map f (chunks_at bs p n)) ≡ n
-  length-entries f = length-map (chunks_at bs p n) f ∙ length-chunks 8 n (drop p bs)
+  pub length-entries : {B : Type 0} (f : List ℕ → B) → length (map f (chunks_at bs s)) ≡ s.count
+  length-entries f = length-map (chunks_at bs s) f ∙ length-chunks 8 s.count (drop s.start bs)
 
-  pub real-entry : (i : ℕ) → i < n → (x : ℕ) (y : Float) → x ≡ le_number (take 8 (drop (p + 8 * i) bs)) → y ≡ of_bits binary64 x → y ≡ get_or (reals_at bs p n) i zero-f
-  real-entry i h x y e f = f ∙ ap (of_bits binary64) (e ∙ same_number (take 8 (drop (p + 8 * i) bs))) ∙ sym (entry real i zero-f h)
+  -- a part of a section of reals
+  pub reals-part : (p n : ℕ) → p + n ≤ s.count → p + n ≤ length (reals_at bs s)
+  reals-part p n h = omega (arith, length-entries real)
 
-  pub number-entry : (i : ℕ) → i < n → (x : ℕ) → x ≡ le_number (take 8 (drop (p + 8 * i) bs)) → x ≡ get_or (map number (chunks_at bs p n)) i 0
-  number-entry i h x e = e ∙ same_number (take 8 (drop (p + 8 * i) bs)) ∙ sym (entry number i 0 h)
+  pub real-entry : (i : ℕ) → i < s.count → (x : ℕ) (y : Float) → x ≡ le_number (take 8 (drop (s.start + 8 * i) bs)) → y ≡ of_bits binary64 x → y ≡ get_or (reals_at bs s) i zero-f
+  real-entry i h x y e f = f ∙ ap (of_bits binary64) (e ∙ same_number (take 8 (drop (s.start + 8 * i) bs))) ∙ sym (entry real i zero-f h)
 
-  pub row-entry : (i : ℕ) → i < n → (o : Option Row) → o ≡ row_of (take 8 (drop (p + 8 * i) bs)) → row_or o ≡ get_or (map row_from (chunks_at bs p n)) i pane_row
+  pub number-entry : (i : ℕ) → i < s.count → (x : ℕ) → x ≡ le_number (take 8 (drop (s.start + 8 * i) bs)) → x ≡ get_or (map number (chunks_at bs s)) i 0
+  number-entry i h x e = e ∙ same_number (take 8 (drop (s.start + 8 * i) bs)) ∙ sym (entry number i 0 h)
+
+  pub row-entry : (i : ℕ) → i < s.count → (o : Option Row) → o ≡ row_of (take 8 (drop (s.start + 8 * i) bs)) → row_or o ≡ get_or (map row_from (chunks_at bs s)) i pane_row
   row-entry i h o e = ap row_or e ∙ sym (entry row_from i pane_row h)
 
 -- ---- a search for a wide row, or for any other

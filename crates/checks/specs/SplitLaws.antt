@@ -8,12 +8,14 @@ use Rattle.std.proofs.Math.ListN.{take, drop}
 use Rattle.std.proofs.Math.Seq.{take-add}
 use Rattle.rules.specs.Numbers.{share_ok, minimum_ok}
 use Rattle.rules.specs.Lists.{position}
-use Rattle.rules.specs.Table.{Row, pane_row, panes_used, shares_used, minima_used, Table}
+use Rattle.rules.specs.Table.{Row, pane_row, panes_used, Table}
 use Rattle.rules.specs.Spec.{after, left_of, row_panes, refuse_if, refuse_at, split_refusal, row_refusal, first_refusal, validate}
 use Rattle.rules.specs.declared.refusal.Refusal.{Refusal}
 use Rattle.rules.specs.declared.refusal.Refusal.TheVariants.{TooFewSplitChildren, ShareCountMismatch, InvalidShare, TooManySplitConstraints, InvalidSplitConstraint}
 use Rattle.checks.specs.Checks.{left_at}
 use Rattle.checks.specs.Walk.{left_after}
+use Rattle.table.specs.Taken.{taken_with}
+use Rattle.table.specs.declared.row.Taken.{Taken}
 
 module _ (n ns nm : ℕ) (ss ms : List Float) (a : length ss ≡ ns) (b : length ms ≡ nm) where
   abbrev last : Option Refusal
@@ -69,30 +71,28 @@ module _ (n ns nm : ℕ) (ss ms : List Float) (a : length ss ≡ ns) (b : length
 -- ---- the walk
 
 -- past i rows, what validation still says is what it says of all
-abbrev pub Checking : Table → ℕ → ℕ → ℕ → ℕ → Type 0
-Checking t i p s m = validate (drop i t.rows) (left_at t p s m) (take p t.panes) ≡ validate t.rows (left_of t) []
+abbrev pub Checking : Table → ℕ → Taken → Type 0
+Checking t i k = validate (drop i t.rows) (left_at t k) (take k.panes t.panes) ≡ validate t.rows (left_of t) []
 
-module _ (t : Table) (i p s m : ℕ) (w : Checking t i p s m) (h : i < length t.rows) (r : Row) (e : r ≡ get_or t.rows i pane_row) where
+module _ (t : Table) (i : ℕ) (k : Taken) (w : Checking t i k) (h : i < length t.rows) (r : Row) (e : r ≡ get_or t.rows i pane_row) where
   rest : Option Refusal
-  rest = validate (drop (suc i) t.rows) (after r (left_at t p s m)) (take p t.panes ++ row_panes r (left_at t p s m))
+  rest = validate (drop (suc i) t.rows) (after r (left_at t k)) (take k.panes t.panes ++ row_panes r (left_at t k))
 
-  here : first_refusal (row_refusal r (left_at t p s m) (take p t.panes)) rest ≡ validate t.rows (left_of t) []
+  here : first_refusal (row_refusal r (left_at t k) (take k.panes t.panes)) rest ≡ validate t.rows (left_of t) []
   unfolding validate rest
   here =
-      ap (λ (l : List Row). validate l (left_at t p s m) (take p t.panes)) (sym (drop-cons t.rows i pane_row h ∙ ap (λ (x : Row). x ∷ drop (suc i) t.rows) (sym e)))
+      ap (λ (l : List Row). validate l (left_at t k) (take k.panes t.panes)) (sym (drop-cons t.rows i pane_row h ∙ ap (λ (x : Row). x ∷ drop (suc i) t.rows) (sym e)))
       ∙ w
 
-  pub checking-bad : (x : Refusal) → some x ≡ row_refusal r (left_at t p s m) (take p t.panes) → some x ≡ validate t.rows (left_of t) []
+  pub checking-bad : (x : Refusal) → some x ≡ row_refusal r (left_at t k) (take k.panes t.panes) → some x ≡ validate t.rows (left_of t) []
   checking-bad x f = ap (λ (o : Option Refusal). first_refusal o rest) f ∙ here
 
-  pub checking-more : (a b c : ℕ) → a ≡ panes_used r → b ≡ shares_used r → c ≡ minima_used r
-      → none ≡ row_refusal r (left_at t p s m) (take p t.panes) → Checking t (i + 1) (p + a) (s + b) (m + c)
+  pub checking-more : none ≡ row_refusal r (left_at t k) (take k.panes t.panes) → Checking t (i + 1) (taken_with k r)
   unfolding rest
-  checking-more a b c x y z f =
-      (λ j. validate (drop (add-one i j) t.rows) (sym (left_after t p s m a b c r x y z) j)
-      ((ap (λ (k : ℕ). take (p + k) t.panes) x ∙ take-add p (panes_used r) t.panes) j))
+  checking-more f =
+      (λ j. validate (drop (add-one i j) t.rows) (sym (left_after t k r) j) (take-add k.panes (panes_used r) t.panes j))
       ∙ ap (λ (o : Option Refusal). first_refusal o rest) f ∙ here
 
-pub checking-end : (t : Table) (i p s m : ℕ) → Checking t i p s m → length t.rows ≤ i → none ≡ validate t.rows (left_of t) []
+pub checking-end : (t : Table) (i : ℕ) (k : Taken) → Checking t i k → length t.rows ≤ i → none ≡ validate t.rows (left_of t) []
 unfolding validate
-checking-end t i p s m w h = sym (ap (λ (l : List Row). validate l (left_at t p s m) (take p t.panes)) (drop_of_length-le t.rows {i = i} h)) ∙ w
+checking-end t i k w h = sym (ap (λ (l : List Row). validate l (left_at t k) (take k.panes t.panes)) (drop_of_length-le t.rows {i = i} h)) ∙ w

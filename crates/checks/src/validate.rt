@@ -1,8 +1,7 @@
 // The Rust's `validate_spec` and `validate_pane` (spec.rs): rows stand in preorder, so its recursion is a walk along them.
 // The panes seen so far are the first of the panes section.
-ghost use Rattle.std.specs.Prelude.{◌≡◌, not, [], ◌+◌, ◌≤◌, length, take, drop};
-ghost use Rattle.rules.specs.Lists.{contains, position};
-ghost use Rattle.rules.specs.Numbers.{share_ok, minimum_ok};
+ghost use Rattle.std.specs.Prelude.{◌≡◌, Bool, not, Float, [], ◌+◌, ◌≤◌, take, drop};
+ghost use Rattle.rules.specs.Lists.{position};
 ghost use Rattle.rules.specs.Spec.{duplicate, tabs_refusal, split_refusal, row_refusal, validate, left_of};
 ghost use Rattle.lists.specs.Find.{place_of};
 ghost use Rattle.table.specs.Row.{row_is};
@@ -12,189 +11,151 @@ ghost use Rattle.table.specs.Rows.{panes_at, reals_at, table_of, Used};
 ghost use Rattle.checks.specs.Checks.{checked_as, left_at, Room, Loaded};
 
 use crate::entry::{known_row, pane_at, real_at};
+use reader::cursor::Section;
 use rules::refusal::Refusal;
-use table::row::{TableRow, minima_used, panes_used, shares_used};
+use table::row::{TableRow, Taken};
 use table::sections::Places;
-
-// The Rust's Result<(), TileSpecError>.
-#[derive(Clone, Copy)]
-pub enum Checked {
-    Good,
-    Bad(Refusal),
-}
 
 // The panes section, read once: 64 rows of at most 16 have at most 1,024 panes.
 fn load_panes(b: &[u8], t: Places) -> [u64; 1024]
-    requires { (Placed b.now t) × (t.pane_count ≤ 1024) }
+    requires placed { Placed b.now t }
+    requires few { t.panes.count ≤ 1024 }
     ensures { Loaded b.now t result }
 {
-    let n = t.pane_count;
     let mut panes = [0u64; 1024];
-    let mut j = 0usize;
-    while j < n {
-        let x = pane_at(b, t, j);
-        panes[j] = x;
-        j += 1;
+    for j in 0..t.panes.count {
+        panes[j] = pane_at(b, t, j);
     }
     panes
 }
 
-// `panes.contains(&pane)`, of the first q.
-fn seen_before(panes: &[u64; 1024], q: usize, x: u64) -> bool
-    requires { (length panes.now ≡ 1024) × (q ≤ 1024) }
-    ensures { result ≡ contains x (take q panes.now) }
-{
-    let mut j = 0usize;
-    while j < q {
-        let y = panes[j];
-        if x == y {
-            return true;
-        }
-        j += 1;
-    }
-    false
-}
-
 // `validate_pane` of each of n panes after the first p.
-fn first_duplicate(panes: &[u64; 1024], p: usize, n: usize) -> Checked
-    requires { (length panes.now ≡ 1024) × (p + n ≤ 1024) }
+fn first_duplicate(panes: &[u64; 1024], p: usize, n: usize) -> Result<(), Refusal>
+    requires { p + n ≤ 1024 }
     ensures { checked_as result ≡ duplicate (take p panes.now) (take n (drop p panes.now)) }
 {
-    let mut k = 0usize;
-    while k < n {
+    for k in 0..n {
         let x = panes[p + k];
-        if seen_before(panes, p + k, x) {
-            return Checked::Bad(Refusal::DuplicatePane(x));
+        if panes[..p + k].contains(&x) {
+            return Err(Refusal::DuplicatePane(x));
         }
-        k += 1;
     }
-    Checked::Good
+    Ok(())
 }
 
 // The arm of TileSpec::Tabs.
-fn check_tabs(panes: &[u64; 1024], p: usize, n: usize, active: usize) -> Checked
-    requires { (length panes.now ≡ 1024) × (p + n ≤ 1024) }
+fn check_tabs(panes: &[u64; 1024], p: usize, n: usize, active: usize) -> Result<(), Refusal>
+    requires { p + n ≤ 1024 }
     ensures { checked_as result ≡ tabs_refusal active (take n (drop p panes.now)) (take p panes.now) }
 {
     if n == 0 {
-        return Checked::Bad(Refusal::EmptyTabs);
+        return Err(Refusal::EmptyTabs);
     }
     if n <= active {
-        return Checked::Bad(Refusal::InvalidActiveTab { active, panes: n });
+        return Err(Refusal::InvalidActiveTab { active, panes: n });
     }
     first_duplicate(panes, p, n)
 }
 
-// `shares.iter().position(|share| !share.is_finite() || *share <= 0.0)`, of n of the shares after the first from.
-fn bad_share(b: &[u8], start: usize, count: usize, from: usize, n: usize) -> Option<usize>
-    requires { (Held b.now start count) × (from + n ≤ count) }
-    ensures { place_of result ≡ position (λ x. not (share_ok x)) (take n (drop from (reals_at b.now start count))) }
+// `position` of the first of n reals, after the first from, that is not good.
+fn first_bad<F: Fn(f64) -> bool>(
+    b: &[u8],
+    reals: Section,
+    from: usize,
+    n: usize,
+    good: F,
+) -> Option<usize>
+    ghost test: { Float → Bool }
+    requires held { Held b.now reals }
+    requires inside { from + n ≤ reals.count }
+    requires callable { F.IsAlwaysCallable good }
+    requires tests { (x : Float) (r : Bool) → F.post good x r → r ≡ test x }
+    ensures { place_of result ≡ position (λ x. not (test x)) (take n (drop from (reals_at b.now reals))) }
 {
-    let mut i = 0usize;
-    while i < n {
-        let x = real_at(b, start, count, from + i);
-        if !number::share_ok(x) {
+    for i in 0..n {
+        if !good(real_at(b, reals, from + i)) {
             return Some(i);
         }
-        i += 1;
     }
     None
 }
 
-// `min_major.iter().position(|minimum| !minimum.is_finite() || *minimum < 0.0)`, likewise.
-fn bad_minimum(b: &[u8], start: usize, count: usize, from: usize, n: usize) -> Option<usize>
-    requires { (Held b.now start count) × (from + n ≤ count) }
-    ensures { place_of result ≡ position (λ x. not (minimum_ok x)) (take n (drop from (reals_at b.now start count))) }
-{
-    let mut i = 0usize;
-    while i < n {
-        let x = real_at(b, start, count, from + i);
-        if !number::minimum_ok(x) {
-            return Some(i);
-        }
-        i += 1;
-    }
-    None
-}
-
-// The arm of TileSpec::Split, up to its children: n of them, with ns shares after the first s and nm minima after the first m.
-fn check_split(b: &[u8], t: Places, n: usize, s: usize, ns: usize, m: usize, nm: usize) -> Checked
-    requires { (Placed b.now t) × (s + ns ≤ t.share_count) × (m + nm ≤ t.minimum_count) }
-    ensures { checked_as result ≡ split_refusal n (take ns (drop s (table_of b.now t).shares)) (take nm (drop m (table_of b.now t).minima)) }
+// The arm of TileSpec::Split, up to its children: n of them, with ns shares and nm minima after those that are taken.
+fn check_split(
+    b: &[u8],
+    t: Places,
+    n: usize,
+    taken: Taken,
+    ns: usize,
+    nm: usize,
+) -> Result<(), Refusal>
+    requires placed { Placed b.now t }
+    requires shares { taken.shares + ns ≤ t.shares.count }
+    requires minima { taken.minima + nm ≤ t.minima.count }
+    ensures { checked_as result ≡ split_refusal n (take ns (drop taken.shares (table_of b.now t).shares)) (take nm (drop taken.minima (table_of b.now t).minima)) }
 {
     if n < 2 {
-        return Checked::Bad(Refusal::TooFewSplitChildren { children: n });
+        return Err(Refusal::TooFewSplitChildren { children: n });
     }
     if n != ns {
-        return Checked::Bad(Refusal::ShareCountMismatch {
+        return Err(Refusal::ShareCountMismatch {
             children: n,
             shares: ns,
         });
     }
-    if let Some(index) = bad_share(b, t.shares, t.share_count, s, ns) {
-        return Checked::Bad(Refusal::InvalidShare { index });
+    if let Some(index) = first_bad(b, t.shares, taken.shares, ns, number::share_ok) {
+        return Err(Refusal::InvalidShare { index });
     }
     if n < nm {
-        return Checked::Bad(Refusal::TooManySplitConstraints {
+        return Err(Refusal::TooManySplitConstraints {
             children: n,
             constraints: nm,
         });
     }
-    if let Some(index) = bad_minimum(b, t.minima, t.minimum_count, m, nm) {
-        return Checked::Bad(Refusal::InvalidSplitConstraint { index });
+    if let Some(index) = first_bad(b, t.minima, taken.minima, nm, number::minimum_ok) {
+        return Err(Refusal::InvalidSplitConstraint { index });
     }
-    Checked::Good
+    Ok(())
 }
 
-// One row, after p panes, s shares and m minima.
+// One row, after those that took what is taken.
 fn check_row(
     b: &[u8],
     t: Places,
     panes: &[u64; 1024],
     row: TableRow,
-    p: usize,
-    s: usize,
-    m: usize,
-) -> Checked
-    requires { (Placed b.now t) × (Room t (row_is row) p s m) × (Loaded b.now t panes.now) }
-    ensures { checked_as result ≡ row_refusal (row_is row) (left_at (table_of b.now t) p s m) (take p (panes_at b.now t)) }
+    taken: Taken,
+) -> Result<(), Refusal>
+    requires placed { Placed b.now t }
+    requires room { Room t (row_is row) taken }
+    requires loaded { Loaded b.now t panes.now }
+    ensures { checked_as result ≡ row_refusal (row_is row) (left_at (table_of b.now t) taken) (take taken.panes (panes_at b.now t)) }
 {
     match row {
-        TableRow::Pane => first_duplicate(panes, p, 1),
-        TableRow::Tabs {
-            placement: _,
-            count,
-            active,
-        } => check_tabs(panes, p, count, active),
+        TableRow::Pane => first_duplicate(panes, taken.panes, 1),
+        TableRow::Tabs { count, active, .. } => check_tabs(panes, taken.panes, count, active),
         TableRow::Split {
-            axis: _,
             count,
             shares,
             minima,
-        } => check_split(b, t, count, s, shares, m, minima),
+            ..
+        } => check_split(b, t, count, taken, shares, minima),
     }
 }
 
 // Every row in preorder: the first refusal is the answer.
-pub fn check_rows(b: &[u8], t: Places) -> Checked
-    requires { (Placed b.now t) × (Used (table_of b.now t)) × (t.pane_count ≤ 1024) }
+pub fn check_rows(b: &[u8], t: Places) -> Result<(), Refusal>
+    requires placed { Placed b.now t }
+    requires used { Used (table_of b.now t) }
+    requires few { t.panes.count ≤ 1024 }
     ensures { checked_as result ≡ validate (table_of b.now t).rows (left_of (table_of b.now t)) [] }
 {
     let panes = load_panes(b, t);
-    let n = t.row_count;
-    let mut i = 0usize;
-    let mut p = 0usize;
-    let mut s = 0usize;
-    let mut m = 0usize;
-    while i < n {
+    let mut taken = Taken::NONE;
+    for i in 0..t.rows.count {
         let row = known_row(b, t, i);
-        if let Checked::Bad(e) = check_row(b, t, &panes, row, p, s, m) {
-            return Checked::Bad(e);
-        }
-        p += panes_used(row);
-        s += shares_used(row);
-        m += minima_used(row);
-        i += 1;
+        check_row(b, t, &panes, row, taken)?;
+        taken = taken.with(row);
     }
-    Checked::Good
+    Ok(())
 }

@@ -62,7 +62,7 @@ pub record BuiltIn (b : Built) (answer : Answer) (root : ℕ) (hs xs : List (Lis
 -- a table that passed every check
 pub record Passed (bs : List ℕ) (t : Places) : Type 0 where
   pub tabled : Tabled bs t
-  pub few : t.row_count ≤ 64
+  pub few : t.rows.count ≤ 64
   pub narrow : any_of wide_row (rows_at bs t) ≡ false
   pub checked : validate (table_of bs t).rows (left_of (table_of bs t)) [] ≡ none
 

@@ -1,13 +1,13 @@
 -- The draft, by each test of the code. Assumes nothing.
 use Rattle.std.specs.Prelude.{◌≡◌, refl, Bool, true, false, List, [], ℕ, ◌≤◌, ◌<◌, ltb, Float, length}
-use Rattle.std.proofs.Common.{sym, ◌∙◌, arith, lt-ltb, le-ltb}
+use Rattle.std.proofs.Common.{sym, subst, ◌∙◌, arith, lt-ltb, le-ltb}
 use Rattle.std.proofs.Math.Path.{ap}
 use Rattle.std.proofs.Math.Option.{Option, none, some}
 use Rattle.rules.specs.Lists.{any_of}
 use Rattle.rules.specs.Tree.{Arena, arena, tile}
 use Rattle.rules.specs.Table.{read_table}
 use Rattle.rules.specs.Spec.{left_of, validate, Built, Build, padded, built_nodes, refused_spec, wide_row}
-use Rattle.rules.specs.Refusals.{Accepted, Refused}
+use Rattle.rules.specs.Refusals.{Answer, Accepted, Refused}
 use Rattle.rules.specs.declared.refusal.Refusal.{Refusal}
 use Rattle.rules.specs.declared.refusal.Refusal.TheVariants.{BadTable, ArenaFull, TooWide}
 use Rattle.columns.specs.Columns.{nodes_from}
@@ -25,8 +25,8 @@ use Rattle.table.specs.declared.sections.Places.{Places}
 
 -- ---- the built tree
 
-rows-size : (bs : List ℕ) (t : Places) → length (table_of bs t).rows ≡ t.row_count
-rows-size bs t = length-entries bs t.rows t.row_count row_from
+rows-size : (bs : List ℕ) (t : Places) → length (table_of bs t).rows ≡ t.rows.count
+rows-size bs t = length-entries bs t.rows row_from
 
 module _ (bs : List ℕ) (t : Places) (w : Passed bs t) where
   pub ready : (kids : List ℕ) → length kids ≡ 1024 → Ready bs t kids 0
@@ -34,7 +34,7 @@ module _ (bs : List ℕ) (t : Places) (w : Passed bs t) where
 
   pub slotted : (kids₀ kids : List ℕ) (end : ℕ) → Pushed (rows_at bs t) kids₀ kids 0 end → Slotted bs t kids end
   slotted kids₀ kids end p =
-      let s : length (table_of bs t).rows ≡ t.row_count = rows-size bs t in
+      let s : length (table_of bs t).rows ≡ t.rows.count = rows-size bs t in
       let h : end ≤ length (table_of bs t).rows = p.high in
       record {
         placed = w.tabled.placed;
@@ -64,6 +64,9 @@ built-refused b e root hs xs ss ms p =
     no : Refused e ≡ Accepted → ⊥
     no q = let z : ◌≡◌ {A = ℕ} 0 1 = cc in omega arith
 
+pub built-said : (b : Built) (a : Answer) (e : Refusal) (root : ℕ) (hs xs : List (List ℕ)) (ss ms : List (List Float)) → a ≡ Refused e → refused_spec e ≡ b → BuiltIn b a root hs xs ss ms
+built-said b a e root hs xs ss ms q p = subst (λ (y : Answer). BuiltIn b y root hs xs ss ms) (sym q) (built-refused b e root hs xs ss ms p)
+
 pub built-accepted : (b : Built) (root : ℕ) (hs xs : List (List ℕ)) (ss ms : List (List Float)) (a : Arena) → b ≡ record { answer = Accepted; tree = a }
     → (arena_from root 0 hs xs ss ms ≡ a) × Plain hs xs ss ms → BuiltIn b Accepted root hs xs ss ms
 built-accepted b root hs xs ss ms a e (h, P) =
@@ -78,10 +81,10 @@ module _ (bs : List ℕ) (t : Places) (w : Tabled bs t) where
   unfolding draft_of
   one = ap draft_tabled w.read
 
-  pub draft-full : 64 < t.row_count → refused_spec ArenaFull ≡ draft_of bs
+  pub draft-full : 64 < t.rows.count → refused_spec ArenaFull ≡ draft_of bs
   draft-full h = sym (one ∙ ap (λ (b : Bool). draft_within b (table_of bs t)) (lt-ltb 64 (length (table_of bs t).rows) (omega (arith, (rows-size bs t)))))
 
-  module _ (h : t.row_count ≤ 64) where
+  module _ (h : t.rows.count ≤ 64) where
     two : draft_of bs ≡ draft_narrow (any_of wide_row (table_of bs t).rows) (table_of bs t)
     two = one ∙ ap (λ (b : Bool). draft_within b (table_of bs t)) (le-ltb 64 (length (table_of bs t).rows) (omega (arith, (rows-size bs t))))
 

@@ -10,11 +10,11 @@ ghost use Rattle.drafting.specs.Draft.{Passed, BuiltIn, draft_of};
 use build::push::push_spec;
 use build::slots::slots_into;
 use checks::entry::too_wide;
-use checks::validate::{Checked, check_rows};
+use checks::validate::check_rows;
 use rules::model::TileTree;
 use rules::refusal::{Answer, Refusal};
 use table::preorder::read_table;
-use table::sections::{Places, Sections};
+use table::sections::Places;
 
 #[derive(Clone, Copy)]
 pub struct Draft {
@@ -31,8 +31,10 @@ fn built_into(
     shares: &mut [[f64; 16]; 64],
     minima: &mut [[f64; 16]; 64],
 )
-    requires { (Passed b.now t) × (Bare heads.old ids.old shares.old minima.old) }
-    ensures { (arena_from 0 0 heads.new ids.new shares.new minima.new ≡ arena (tile 0) 0 (built_nodes (table_of b.now t))) × (Plain heads.new ids.new shares.new minima.new) }
+    requires passed { Passed b.now t }
+    requires bare { Bare heads.old ids.old shares.old minima.old }
+    ensures shown { arena_from 0 0 heads.new ids.new shares.new minima.new ≡ arena (tile 0) 0 (built_nodes (table_of b.now t)) }
+    ensures plain { Plain heads.new ids.new shares.new minima.new }
 {
     let mut kids = [0u64; 1024];
     let end = push_spec(b, t, &mut kids, 0);
@@ -50,18 +52,14 @@ pub fn build_into(
     requires { Bare heads.old ids.old shares.old minima.old }
     ensures { BuiltIn (draft_of b.now) result 0 heads.new ids.new shares.new minima.new }
 {
-    let Sections::Four(t) = read_table(b) else {
-        return Err(Refusal::BadTable);
-    };
-    if 64 < t.row_count {
+    let t = read_table(b).ok_or(Refusal::BadTable)?;
+    if 64 < t.rows.count {
         return Err(Refusal::ArenaFull);
     }
     if too_wide(b, t) {
         return Err(Refusal::TooWide);
     }
-    if let Checked::Bad(e) = check_rows(b, t) {
-        return Err(e);
-    }
+    check_rows(b, t)?;
     built_into(b, t, heads, ids, shares, minima);
     Ok(())
 }

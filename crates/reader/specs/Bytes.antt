@@ -30,6 +30,16 @@ number-four s i x y h e f =
     let p : number_at 2 (suc (suc i)) s ≡ number_at 2 (i + 2) s = ap (λ (k : ℕ). number_at 2 k s) (let q : suc (suc i) ≡ i + 2 = omega arith in q) in
     omega (arith, a, b, c, d, p)
 
+-- the same as std's from_le_bytes spells them
+pub pair-read : (s : List ℕ) (i : ℕ) → i + 2 ≤ length s → get_or s i 0 + get_or s (i + 1) 0 * 256 ≡ number_at 2 i s
+pair-read s i h = omega (arith, number-two s i _ _ h refl refl)
+
+pub count-read : (s : List ℕ) (i : ℕ) → i + 4 ≤ length s
+    → get_or s i 0 + get_or s (i + 1) 0 * 256 + get_or s (i + 2) 0 * 65536 + get_or s (i + 3) 0 * 16777216 ≡ number_at 4 i s
+count-read s i h =
+    let j : i + 2 + 1 ≡ i + 3 = omega arith in
+    omega (arith, number-four s i _ _ h (pair-read s i (omega arith)) (pair-read s (i + 2) (omega arith)), ap (λ (k : ℕ). get_or s k 0) j)
+
 pub inner : {A : Type 0} (i w n : ℕ) (l : List A) → i + w ≤ n → take w (drop i (take n l)) ≡ take w (drop i l)
 inner zero w n l h = take-take w n l (omega arith)
 inner (suc i) w zero l h = absurd (omega arith)

@@ -1,29 +1,37 @@
 // The covered work of the reader: a section found at a place of a plain slice. Nothing is copied: a section is a place and a count.
+ghost use Rattle.std.specs.Prelude.{◌≡◌, ◌+◌, ◌*◌, ◌^◌, ◌<◌};
 ghost use Rattle.reader.specs.Section.{SectionAt};
 
 use crate::bytes::count;
 
-// Where a section's entries start, and how many there are; or the bytes end within it.
+// Where a section's entries start, and how many there are: eight bytes each.
 #[derive(Clone, Copy)]
-pub enum Found {
-    At(usize, usize),
-    Short,
+pub struct Section {
+    pub start: usize,
+    pub count: usize,
 }
 
-// A 32-bit count, then as many entries of eight bytes.
-pub fn find_section(b: &[u8], p: usize) -> Found
+impl Section {
+    // Where its last entry ends, and the next section begins.
+    pub fn end(self) -> usize
+        requires { self.start + 8 * self.count < 2 ^ 64 }
+        ensures { result ≡ self.start + 8 * self.count }
+    {
+        self.start + 8 * self.count
+    }
+}
+
+// A 32-bit count, then as many entries of eight bytes; or the bytes end within it.
+pub fn find_section(b: &[u8], p: usize) -> Option<Section>
     ensures { SectionAt b.now p result }
 {
-    let size = b.len();
-    if size < p {
-        return Found::Short;
+    let left = b.len().checked_sub(p)?.checked_sub(4)?;
+    let count = count(b, p) as usize;
+    if left < 8 * count {
+        return None;
     }
-    if size - p < 4 {
-        return Found::Short;
-    }
-    let n = count(b, p) as usize;
-    if size - p - 4 < 8 * n {
-        return Found::Short;
-    }
-    Found::At(p + 4, n)
+    Some(Section {
+        start: p + 4,
+        count,
+    })
 }

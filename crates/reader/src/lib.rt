@@ -8,7 +8,7 @@ pub mod cursor;
 ghost use Rattle.std.specs.Prelude.{◌≡◌};
 ghost use Rattle.reader.specs.Section.{SectionAt};
 
-use crate::cursor::{Found, find_section};
+use crate::cursor::{Section, find_section};
 
 #[derive(Clone, Copy)]
 pub struct Reader<'a> {
@@ -18,27 +18,29 @@ pub struct Reader<'a> {
 
 // At the first byte.
 pub fn new<'a>(bytes: &'a [u8]) -> Reader<'a>
-    ensures { (result.bytes ≡ bytes.entry) × (result.at ≡ 0) }
+    ensures bytes { result.bytes ≡ bytes.entry }
+    ensures place { result.at ≡ 0 }
 {
     Reader { bytes, at: 0 }
 }
 
 // The same bytes, at another place.
 pub fn moved<'a>(r: Reader<'a>, at: usize) -> Reader<'a>
-    ensures { (result.bytes ≡ r.entry.bytes) × (result.at ≡ at) }
+    ensures bytes { result.bytes ≡ r.entry.bytes }
+    ensures place { result.at ≡ at }
 {
     Reader { bytes: r.bytes, at }
 }
 
 // The section that stands at its place.
-pub fn section<'a>(r: Reader<'a>) -> Found
+pub fn section<'a>(r: Reader<'a>) -> Option<Section>
     ensures { SectionAt r.entry.bytes.now r.entry.at result }
 {
     find_section(r.bytes, r.at)
 }
 
 // The section at a place of a plain slice, by a reader that is taken apart at once.
-pub fn section_at(b: &[u8], at: usize) -> Found
+pub fn section_at(b: &[u8], at: usize) -> Option<Section>
     ensures { SectionAt b.now at result }
 {
     section(moved(new(b), at))

@@ -1,5 +1,6 @@
 -- What the contracts of the table cite, and the laws that its proofs cite.
 pub mod Row
+pub mod Taken
 pub mod RowLaws
 pub mod Sections
 pub mod SectionLaws

@@ -6,7 +6,8 @@ use Rattle.rules.specs.Table.{Row, pane_row, tabs_row, split_row, number_at, bar
 use Rattle.rules.specs.declared.model.Axis.{Axis}
 use Rattle.rules.specs.declared.model.TabBarPlacement.{TabBarPlacement}
 use Rattle.table.specs.Row.{read_is, row_or, Small, ReadAt}
-use Rattle.table.specs.declared.row.RowRead.{RowRead}
+use Rattle.std.specs.Prelude as Std
+use Rattle.table.specs.declared.row.TableRow.{TableRow}
 use Rattle.reader.specs.Bytes.{within, number-one}
 
 pub axis-rest : (m : ℕ) → (m ≡ 0 → ⊥) → (m ≡ 1 → ⊥) → none ≡ axis_of m
@@ -95,7 +96,7 @@ pub split-bad : (a n x m : ℕ) → none ≡ axis_of a → none ≡ row_by 2 a n
 split-bad a n x m f = ap (λ (o : Option Axis). split_if o n x m) f
 
 -- the whole of a row that is read
-pub row_read : (bs : List ℕ) (at k mode n s m : ℕ) (r : RowRead) → at + 8 ≤ length bs → k ≡ get_or bs at 0 → mode ≡ get_or bs (at + 1) 0 → n ≡ number_at 2 (at + 2) bs
+pub row_read : (bs : List ℕ) (at k mode n s m : ℕ) (r : Std.Option TableRow) → at + 8 ≤ length bs → k ≡ get_or bs at 0 → mode ≡ get_or bs (at + 1) 0 → n ≡ number_at 2 (at + 2) bs
     → s ≡ number_at 2 (at + 4) bs → m ≡ number_at 2 (at + 6) bs → n < 65536 → s < 65536 → m < 65536 → read_is r ≡ row_by k mode n s m → ReadAt bs at r
 row_read bs at k mode n s m r h a b c d e p q t w =
     record {

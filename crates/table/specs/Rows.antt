@@ -1,32 +1,33 @@
 -- A table by its places in the bytes, and the row rules as one test along the rows. Definitions only.
-use Rattle.std.specs.Prelude.{◌≡◌, Bool, false, ◌&&◌, List, [], ◌∷◌, map, ℕ, zero, suc, ◌+◌, eqb, length, Float}
+use Rattle.std.specs.Prelude.{◌≡◌, Some, None, Bool, false, ◌&&◌, List, [], ◌∷◌, map, ℕ, zero, suc, ◌+◌, eqb, length, Float}
 use Rattle.std.proofs.Math.Option.{Option, none, some}
 use Rattle.rules.specs.Table.{Row, row_of, panes_used, shares_used, minima_used, children_used, sum_rows, Table, number, real, read_table}
 use Rattle.table.specs.Row.{row_or}
 use Rattle.reader.specs.Section.{chunks_at}
 use Rattle.table.specs.Sections.{Placed}
 use Rattle.table.specs.declared.sections.Places.{Places}
-use Rattle.table.specs.declared.sections.Sections as S
+use Rattle.std.specs.Prelude as Std
+use Rattle.reader.specs.declared.cursor.Section.{Section}
 
 abbrev pub row_from : List ℕ → Row
 row_from e = row_or (row_of e)
 
 abbrev pub rows_at : List ℕ → Places → List Row
-rows_at bs t = map row_from (chunks_at bs t.rows t.row_count)
+rows_at bs t = map row_from (chunks_at bs t.rows)
 
 abbrev pub panes_at : List ℕ → Places → List ℕ
-panes_at bs t = map number (chunks_at bs t.panes t.pane_count)
+panes_at bs t = map number (chunks_at bs t.panes)
 
-abbrev pub reals_at : List ℕ → ℕ → ℕ → List Float
-reals_at bs p n = map real (chunks_at bs p n)
+abbrev pub reals_at : List ℕ → Section → List Float
+reals_at bs s = map real (chunks_at bs s)
 
 abbrev pub table_of : List ℕ → Places → Table
 table_of bs t =
     record {
       rows = rows_at bs t;
       panes = panes_at bs t;
-      shares = reals_at bs t.shares t.share_count;
-      minima = reals_at bs t.minima t.minimum_count;
+      shares = reals_at bs t.shares;
+      minima = reals_at bs t.minima;
     }
 
 -- each section is used up exactly
@@ -40,9 +41,9 @@ pub record Tabled (bs : List ℕ) (t : Places) : Type 0 where
   pub placed : Placed bs t
   pub used : Used (table_of bs t)
 
-abbrev pub TableIs : List ℕ → S.Sections → Type 0
-TableIs bs (S.TheVariants.Four t) = Tabled bs t
-TableIs bs S.TheVariants.Bad = read_table bs ≡ none
+abbrev pub TableIs : List ℕ → Std.Option Places → Type 0
+TableIs bs (Some t) = Tabled bs t
+TableIs bs None = read_table bs ≡ none
 
 -- ---- the row rules as a walk: tiles still to come, and what is taken so far of each section
 
@@ -57,4 +58,4 @@ ok_from np ns nm (e ∷ es) n a b c =
     ok_by (row_of e) n (λ k r. ok_from np ns nm es (k + children_used r) (a + panes_used r) (b + shares_used r) (c + minima_used r))
 
 abbrev pub ok_rows : List ℕ → Places → Bool
-ok_rows bs t = ok_from t.pane_count t.share_count t.minimum_count (chunks_at bs t.rows t.row_count) 1 0 0 0
+ok_rows bs t = ok_from t.panes.count t.shares.count t.minima.count (chunks_at bs t.rows) 1 0 0 0

@@ -1,5 +1,5 @@
 -- The walk along the rows is the rules' own test of a table, and the code's loop is that walk. Assumes nothing.
-use Rattle.std.specs.Prelude.{◌≡◌, refl, Bool, true, false, ◌&&◌, ℕ, zero, suc, ◌+◌, ◌*◌, ◌<◌, length, get_or, take, drop}
+use Rattle.std.specs.Prelude.{◌≡◌, refl, Some, None, Bool, true, false, ◌&&◌, ℕ, zero, suc, ◌+◌, ◌*◌, ◌<◌, length, get_or, take, drop}
 use Rattle.std.proofs.Common.{sym, ap, subst, ◌∙◌, le_of_suc-le-suc, mul-suc, add_comm, eqb-true, drop-drop}
 use mathlib.Core.List.{List, [], ◌∷◌, map}
 use Rattle.std.proofs.Math.Option.{Option, none, some}
@@ -12,7 +12,7 @@ use Rattle.reader.specs.Section.{chunks_at}
 use Rattle.table.specs.Sections.{SectionsAre}
 use Rattle.table.specs.Rows.{row_from, table_of, Used, TableIs, ok_by, ok_from, ok_rows}
 use Rattle.table.specs.declared.sections.Places.{Places}
-use Rattle.table.specs.declared.sections.Sections as S
+use Rattle.reader.specs.declared.cursor.Section.{Section}
 
 -- ---- chunks
 
@@ -33,8 +33,8 @@ chunk w (suc n) (suc i) l d h =
     next w i = sym (mul-suc w i ∙ add_comm (w * i) w)
 
 -- the i-th entry of a section
-pub chunk-at : (bs : List ℕ) (p n i : ℕ) (d : List ℕ) → i < n → get_or (chunks_at bs p n) i d ≡ take 8 (drop (p + 8 * i) bs)
-chunk-at bs p n i d h = chunk 8 n i (drop p bs) d h ∙ ap (take 8) (drop-drop (8 * i) p bs)
+pub chunk-at : (bs : List ℕ) (s : Section) (i : ℕ) (d : List ℕ) → i < s.count → get_or (chunks_at bs s) i d ≡ take 8 (drop (s.start + 8 * i) bs)
+chunk-at bs s i d h = chunk 8 s.count i (drop s.start bs) d h ∙ ap (take 8) (drop-drop (8 * i) s.start bs)
 
 -- ---- the walk is the rules' test
 
@@ -138,15 +138,15 @@ module _ (ps ss ms : List (List ℕ)) (np ns nm : ℕ) (p : length ps ≡ np) (s
             bad = λ f. ap (λ (q : Option (List Row)). with_rows q ps ss ms) e ∙ ap (λ (b : Bool). fitting b (tabled ps ss ms rs)) (sym g ∙ f);
           }
 
-module _ (bs : List ℕ) (t : Places) (w : SectionsAre bs (S.TheVariants.Four t)) where
-  all : Told (chunks_at bs t.rows t.row_count) (chunks_at bs t.panes t.pane_count) (chunks_at bs t.shares t.share_count) (chunks_at bs t.minima t.minimum_count) (table_of bs t) (ok_rows bs t)
+module _ (bs : List ℕ) (t : Places) (w : SectionsAre bs (Some t)) where
+  all : Told (chunks_at bs t.rows) (chunks_at bs t.panes) (chunks_at bs t.shares) (chunks_at bs t.minima) (table_of bs t) (ok_rows bs t)
   all =
-      told (chunks_at bs t.panes t.pane_count) (chunks_at bs t.shares t.share_count) (chunks_at bs t.minima t.minimum_count) t.pane_count t.share_count t.minimum_count
-      (length-chunks 8 t.pane_count (drop t.panes bs)) (length-chunks 8 t.share_count (drop t.shares bs)) (length-chunks 8 t.minimum_count (drop t.minima bs))
-      (chunks_at bs t.rows t.row_count)
+      told (chunks_at bs t.panes) (chunks_at bs t.shares) (chunks_at bs t.minima) t.panes.count t.shares.count t.minima.count
+      (length-chunks 8 t.panes.count (drop t.panes.start bs)) (length-chunks 8 t.shares.count (drop t.shares.start bs)) (length-chunks 8 t.minima.count (drop t.minima.start bs))
+      (chunks_at bs t.rows)
 
-  pub table-good : true ≡ ok_rows bs t → TableIs bs (S.TheVariants.Four t)
+  pub table-good : true ≡ ok_rows bs t → TableIs bs (Some t)
   table-good e = let g = all.good (sym e) in record { read = w.is ∙ g.0; placed = w.here; used = g.1 }
 
-  pub table-bad : false ≡ ok_rows bs t → TableIs bs S.TheVariants.Bad
+  pub table-bad : false ≡ ok_rows bs t → TableIs bs None
   table-bad e = w.is ∙ all.bad (sym e)

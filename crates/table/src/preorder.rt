@@ -4,64 +4,43 @@ ghost use Rattle.std.specs.Prelude.{◌≡◌, ◌&&◌, eqb};
 ghost use Rattle.table.specs.Sections.{Placed};
 ghost use Rattle.table.specs.Rows.{ok_rows, TableIs};
 
-use crate::row::{RowRead, children_used, minima_used, panes_used, row_at, shares_used};
-use crate::sections::{Places, Sections, find_sections};
+use crate::row::{Taken, children_used, row_at};
+use crate::sections::{Places, find_sections};
 
 // At the end: no tile is still to come, and nothing is left of a section.
-fn all_used(t: Places, due: usize, panes: usize, shares: usize, minima: usize) -> bool
-    ensures { result ≡ (eqb due 0 && eqb panes t.pane_count && eqb shares t.share_count && eqb minima t.minimum_count) }
+fn all_used(t: Places, due: usize, taken: Taken) -> bool
+    ensures { result ≡ (eqb due 0 && eqb taken.panes t.panes.count && eqb taken.shares t.shares.count && eqb taken.minima t.minima.count) }
 {
-    if due != 0 {
-        return false;
-    }
-    if panes != t.pane_count {
-        return false;
-    }
-    if shares != t.share_count {
-        return false;
-    }
-    if minima != t.minimum_count {
-        return false;
-    }
-    true
+    due == 0
+        && taken.panes == t.panes.count
+        && taken.shares == t.shares.count
+        && taken.minima == t.minima.count
 }
 
 fn rows_fit(b: &[u8], t: Places) -> bool
     requires { Placed b.now t }
     ensures { result ≡ ok_rows b.now t }
 {
-    let start = t.rows;
-    let n = t.row_count;
-    let mut i = 0usize;
+    let start = t.rows.start;
     let mut due = 1usize;
-    let mut panes = 0usize;
-    let mut shares = 0usize;
-    let mut minima = 0usize;
-    while i < n {
+    let mut taken = Taken::NONE;
+    for i in 0..t.rows.count {
         if due == 0 {
             return false;
         }
-        let RowRead::Row(row) = row_at(b, start + 8 * i) else {
+        let Some(row) = row_at(b, start + 8 * i) else {
             return false;
         };
         due = due - 1 + children_used(row);
-        panes += panes_used(row);
-        shares += shares_used(row);
-        minima += minima_used(row);
-        i += 1;
+        taken = taken.with(row);
     }
-    all_used(t, due, panes, shares, minima)
+    all_used(t, due, taken)
 }
 
-// The table where it stands, or Bad: document 01's refusal 1.
-pub fn read_table(b: &[u8]) -> Sections
+// The table where it stands, or none: document 01's refusal 1.
+pub fn read_table(b: &[u8]) -> Option<Places>
     ensures { TableIs b.now result }
 {
-    let Sections::Four(t) = find_sections(b) else {
-        return Sections::Bad;
-    };
-    if rows_fit(b, t) {
-        return Sections::Four(t);
-    }
-    Sections::Bad
+    let t = find_sections(b)?;
+    rows_fit(b, t).then_some(t)
 }

@@ -1,8 +1,9 @@
 // One row of a table: eight bytes, a kind, a mode and three counts. The Rust's TileSpec, without what stands under it.
-ghost use Rattle.std.specs.Prelude.{◌≡◌, ◌+◌, ◌≤◌, ◌<◌, length};
+ghost use Rattle.std.specs.Prelude.{◌≡◌, ◌+◌, ◌^◌, ◌≤◌, ◌<◌, length};
 ghost use Rattle.rules.specs.Table.{row_by, panes_used, shares_used, minima_used, children_used, bar_of, axis_of};
 ghost use Rattle.rules.specs.Spec.{wide_row};
 ghost use Rattle.table.specs.Row.{row_is, read_is, bar_is, axis_is, ReadAt};
+ghost use Rattle.table.specs.Taken.{taken_with};
 
 use reader::bytes::{byte, pair};
 use rules::model::{Axis, TabBarPlacement};
@@ -24,111 +25,77 @@ pub enum TableRow {
     },
 }
 
-#[derive(Clone, Copy)]
-pub enum RowRead {
-    Row(TableRow),
-    Bad,
-}
-
-#[derive(Clone, Copy)]
-pub enum BarRead {
-    Bar(TabBarPlacement),
-    Bad,
-}
-
-#[derive(Clone, Copy)]
-pub enum AxisRead {
-    Axis(Axis),
-    Bad,
-}
-
-fn bar_of(mode: u64) -> BarRead
+fn bar_of(mode: u64) -> Option<TabBarPlacement>
     ensures { bar_is result ≡ bar_of mode }
 {
     match mode {
-        0 => BarRead::Bar(TabBarPlacement::Hidden),
-        1 => BarRead::Bar(TabBarPlacement::Top),
-        2 => BarRead::Bar(TabBarPlacement::Bottom),
-        3 => BarRead::Bar(TabBarPlacement::Left),
-        4 => BarRead::Bar(TabBarPlacement::Right),
-        _ => BarRead::Bad,
+        0 => Some(TabBarPlacement::Hidden),
+        1 => Some(TabBarPlacement::Top),
+        2 => Some(TabBarPlacement::Bottom),
+        3 => Some(TabBarPlacement::Left),
+        4 => Some(TabBarPlacement::Right),
+        _ => None,
     }
 }
 
-fn axis_of(mode: u64) -> AxisRead
+fn axis_of(mode: u64) -> Option<Axis>
     ensures { axis_is result ≡ axis_of mode }
 {
     match mode {
-        0 => AxisRead::Axis(Axis::Horizontal),
-        1 => AxisRead::Axis(Axis::Vertical),
-        _ => AxisRead::Bad,
+        0 => Some(Axis::Horizontal),
+        1 => Some(Axis::Vertical),
+        _ => None,
     }
 }
 
 // Pane: mode 0, count 1, extra 0, minima 0, and nothing else.
-fn pane_row(mode: u64, count: u64, extra: u64, minima: u64) -> RowRead
+fn pane_row(mode: u64, count: u64, extra: u64, minima: u64) -> Option<TableRow>
     ensures { read_is result ≡ row_by 0 mode count extra minima }
 {
-    if mode != 0 {
-        return RowRead::Bad;
-    }
-    if count != 1 {
-        return RowRead::Bad;
-    }
-    if extra != 0 {
-        return RowRead::Bad;
-    }
-    if minima != 0 {
-        return RowRead::Bad;
-    }
-    RowRead::Row(TableRow::Pane)
+    (mode == 0 && count == 1 && extra == 0 && minima == 0).then_some(TableRow::Pane)
 }
 
 // Tabs: the mode is the bar's placement, the extra the active index; no minima.
-fn tabs_row(mode: u64, count: u64, extra: u64, minima: u64) -> RowRead
+fn tabs_row(mode: u64, count: u64, extra: u64, minima: u64) -> Option<TableRow>
     ensures { read_is result ≡ row_by 1 mode count extra minima }
 {
     if minima != 0 {
-        return RowRead::Bad;
+        return None;
     }
-    match bar_of(mode) {
-        BarRead::Bar(placement) => RowRead::Row(TableRow::Tabs {
-            placement,
-            count: count as usize,
-            active: extra as usize,
-        }),
-        BarRead::Bad => RowRead::Bad,
-    }
+    let placement = bar_of(mode)?;
+    Some(TableRow::Tabs {
+        placement,
+        count: count as usize,
+        active: extra as usize,
+    })
 }
 
 // Split: the mode is the axis, the extra the number of shares.
-fn split_row(mode: u64, count: u64, extra: u64, minima: u64) -> RowRead
+fn split_row(mode: u64, count: u64, extra: u64, minima: u64) -> Option<TableRow>
     ensures { read_is result ≡ row_by 2 mode count extra minima }
 {
-    match axis_of(mode) {
-        AxisRead::Axis(axis) => RowRead::Row(TableRow::Split {
-            axis,
-            count: count as usize,
-            shares: extra as usize,
-            minima: minima as usize,
-        }),
-        AxisRead::Bad => RowRead::Bad,
-    }
+    let axis = axis_of(mode)?;
+    Some(TableRow::Split {
+        axis,
+        count: count as usize,
+        shares: extra as usize,
+        minima: minima as usize,
+    })
 }
 
-fn row_by(kind: u64, mode: u64, count: u64, extra: u64, minima: u64) -> RowRead
+fn row_by(kind: u64, mode: u64, count: u64, extra: u64, minima: u64) -> Option<TableRow>
     ensures { read_is result ≡ row_by kind mode count extra minima }
 {
     match kind {
         0 => pane_row(mode, count, extra, minima),
         1 => tabs_row(mode, count, extra, minima),
         2 => split_row(mode, count, extra, minima),
-        _ => RowRead::Bad,
+        _ => None,
     }
 }
 
 // The row whose eight bytes stand at a place.
-pub fn row_at(b: &[u8], at: usize) -> RowRead
+pub fn row_at(b: &[u8], at: usize) -> Option<TableRow>
     requires { at + 8 ≤ length b.now }
     ensures { ReadAt b.now at result }
 {
@@ -140,61 +107,44 @@ pub fn row_at(b: &[u8], at: usize) -> RowRead
     row_by(kind, mode, count, extra, minima)
 }
 
-// What a row takes off the panes section.
-pub fn panes_used(r: TableRow) -> usize
-    ensures { result ≡ panes_used (row_is r) }
-{
-    match r {
-        TableRow::Pane => 1,
-        TableRow::Tabs {
-            placement: _,
-            count,
-            active: _,
-        } => count,
-        TableRow::Split {
-            axis: _,
-            count: _,
-            shares: _,
-            minima: _,
-        } => 0,
-    }
+// How many panes, shares and minima some rows take off the other sections.
+#[derive(Clone, Copy)]
+pub struct Taken {
+    pub panes: usize,
+    pub shares: usize,
+    pub minima: usize,
 }
 
-pub fn shares_used(r: TableRow) -> usize
-    ensures { result ≡ shares_used (row_is r) }
-{
-    match r {
-        TableRow::Pane => 0,
-        TableRow::Tabs {
-            placement: _,
-            count: _,
-            active: _,
-        } => 0,
-        TableRow::Split {
-            axis: _,
-            count: _,
-            shares,
-            minima: _,
-        } => shares,
-    }
-}
+impl Taken {
+    // None are taken before the first row.
+    pub const NONE: Taken = Taken {
+        panes: 0,
+        shares: 0,
+        minima: 0,
+    };
 
-pub fn minima_used(r: TableRow) -> usize
-    ensures { result ≡ minima_used (row_is r) }
-{
-    match r {
-        TableRow::Pane => 0,
-        TableRow::Tabs {
-            placement: _,
-            count: _,
-            active: _,
-        } => 0,
-        TableRow::Split {
-            axis: _,
-            count: _,
-            shares: _,
-            minima,
-        } => minima,
+    // What is taken past one more row.
+    pub fn with(self, row: TableRow) -> Taken
+        requires panes { self.panes + panes_used (row_is row) < 2 ^ 64 }
+        requires shares { self.shares + shares_used (row_is row) < 2 ^ 64 }
+        requires minima { self.minima + minima_used (row_is row) < 2 ^ 64 }
+        ensures { result ≡ taken_with self (row_is row) }
+    {
+        match row {
+            TableRow::Pane => Taken {
+                panes: self.panes + 1,
+                ..self
+            },
+            TableRow::Tabs { count, .. } => Taken {
+                panes: self.panes + count,
+                ..self
+            },
+            TableRow::Split { shares, minima, .. } => Taken {
+                shares: self.shares + shares,
+                minima: self.minima + minima,
+                ..self
+            },
+        }
     }
 }
 
@@ -203,18 +153,8 @@ pub fn children_used(r: TableRow) -> usize
     ensures { result ≡ children_used (row_is r) }
 {
     match r {
-        TableRow::Pane => 0,
-        TableRow::Tabs {
-            placement: _,
-            count: _,
-            active: _,
-        } => 0,
-        TableRow::Split {
-            axis: _,
-            count,
-            shares: _,
-            minima: _,
-        } => count,
+        TableRow::Split { count, .. } => count,
+        _ => 0,
     }
 }
 
@@ -224,16 +164,6 @@ pub fn is_wide(r: TableRow) -> bool
 {
     match r {
         TableRow::Pane => false,
-        TableRow::Tabs {
-            placement: _,
-            count,
-            active: _,
-        } => 16 < count,
-        TableRow::Split {
-            axis: _,
-            count,
-            shares: _,
-            minima: _,
-        } => 16 < count,
+        TableRow::Tabs { count, .. } | TableRow::Split { count, .. } => 16 < count,
     }
 }

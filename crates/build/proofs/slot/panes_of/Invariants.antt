@@ -1,12 +1,7 @@
--- `build::slot::panes_of`: fills a fresh list. Assumes nothing.
-use Prim.Native.Nat.{◌-◌}
-use lib.ListN.{take, drop}
-use Rattle.lists.specs.Build.{Building}
+-- `build::slot::panes_of`: the panes that fill the list. Assumes nothing.
+use Rattle.std.proofs.Common.{◌+◌, get_or}
 use Rattle.table.specs.Rows.{panes_at}
 use Rattle.build.proofs.slot.panes_of.Given as goal
 
-abbrev pub invariant-loop-j : goal.invariant-loop-j
-invariant-loop-j l = Building 0 (take l.n (drop l.p (panes_at l.b l.t))) l.n l.j l.at
-
-abbrev pub decreases-loop-j : goal.decreases-loop-j
-decreases-loop-j l = l.n - l.j
+abbrev pub ghost-filled : goal.ghost-filled
+ghost-filled a = λ j. get_or (panes_at a.entry.0.now a.entry.1) (a.entry.2 + j) 0

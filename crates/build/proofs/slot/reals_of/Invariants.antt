@@ -1,13 +1,8 @@
--- `build::slot::reals_of`: fills a fresh list. Assumes nothing.
-use Prim.Native.Nat.{◌-◌}
-use lib.ListN.{take, drop}
-use Rattle.lists.specs.Build.{Building}
+-- `build::slot::reals_of`: the reals that fill the list. Assumes nothing.
+use Rattle.std.proofs.Common.{◌+◌, get_or}
 use Rattle.rules.specs.Numbers.{zero-f}
 use Rattle.table.specs.Rows.{reals_at}
 use Rattle.build.proofs.slot.reals_of.Given as goal
 
-abbrev pub invariant-loop-j : goal.invariant-loop-j
-invariant-loop-j l = Building zero-f (take l.n (drop l.from (reals_at l.b l.start l.count))) l.n l.j l.at
-
-abbrev pub decreases-loop-j : goal.decreases-loop-j
-decreases-loop-j l = l.n - l.j
+abbrev pub ghost-filled : goal.ghost-filled
+ghost-filled a = λ j. get_or (reals_at a.entry.0.now a.entry.1) (a.entry.2 + j) zero-f

@@ -1,98 +1,45 @@
 -- `build::slots::slots_into`: each turn fills the next row of the columns with the next node. Assumes nothing.
-use mathlib.Core.Path.{sym, subst}
-use Prim.Native.Nat.{◌≤◌}
-use native.Mathlib.Omega.{arith}
+use Rattle.std.proofs.Common.{arith, sym, subst, ◌+◌}
 use Rattle.rules.specs.Table.{Row}
 use Rattle.table.specs.Row.{row_is}
-use Rattle.checks.specs.Walk.{along-room}
+use Rattle.table.specs.declared.row.Taken.{Taken}
+use Rattle.checks.specs.Walk.{along-room, along-fits}
 use Rattle.build.specs.Slots.{Fit}
-use Rattle.build.specs.SlotsLoop.{slotting-start, slotting-more, slotting-end}
+use Rattle.build.specs.SlotsLoop.{Slotting, slotting-more, slotting-end}
 use Rattle.build.proofs.slots.slots_into.Goals as goal
 
-pub loop-i-init : goal.loop-i-init
-loop-i-init c =
+pub slot_of-slot-requires-clause-room : goal.slot_of-slot-requires-clause-room
+slot_of-slot-requires-clause-room c =
     let x = c.args in
-    let pre = c.requires in
-    slotting-start x.b.now x.t x.kids.now x.end pre.0 x.heads.now x.ids.now x.shares.now x.minima.now pre.1
+    along-room x.b.now x.t c.loop-i.i c.loop-i.taken _ c.loop-i.invariant.along (omega (arith, c.requires.slotted.within)) c.known_row-row.ensures
 
-pub known_row-row-requires : goal.known_row-row-requires
-known_row-row-requires c =
-    let x = c.args in
-    let pre = c.requires.0 in
-    (pre.placed, (let w : x.end ≤ x.t.row_count = pre.within in omega (arith, c.loop-i-test.true)))
+pub slot_of-slot-requires-clause-fit : goal.slot_of-slot-requires-clause-fit
+slot_of-slot-requires-clause-fit c = subst (λ (r : Row). Fit r) (sym c.known_row-row.ensures) (c.requires.slotted.fit c.loop-i.i (omega (arith, c.requires.slotted.within)))
 
-pub slot_of-slot-requires : goal.slot_of-slot-requires
-slot_of-slot-requires c =
-    let x = c.args in
-    let pre = c.requires.0 in
-    let l = c.loop-i in
-    let row = row_is c.known_row-row.result in
-    let room = along-room x.b.now x.t l.i l.p l.s l.m row l.invariant.along (let w : x.end ≤ x.t.row_count = pre.within in omega (arith, c.loop-i-test.true)) c.known_row-row.ensures in
-    (pre.placed, room, subst (λ (r : Row). Fit r) (sym c.known_row-row.ensures) (pre.fit l.i (let w : x.end ≤ x.t.row_count = pre.within in omega (arith, c.loop-i-test.true))), pre.size, omega (arith, c.loop-i-test.true, pre.within, pre.few))
+pub with-taken-requires-clause-panes : goal.with-taken-requires-clause-panes
+with-taken-requires-clause-panes c =
+    let z = c.requires.slotted in
+    (along-fits _ _ _ _ _ z.placed c.loop-i.invariant.along (omega (arith, z.within)) c.known_row-row.ensures).0
 
-pub put-requires : goal.put-requires
-put-requires c =
-    let x = c.args in
-    let pre = c.requires.0 in
-    let e = c.loop-i.invariant.even in
-    (e.heads, e.ids, e.shares, e.minima, omega (arith, c.loop-i-test.true, pre.within, pre.few))
+pub with-taken-requires-clause-shares : goal.with-taken-requires-clause-shares
+with-taken-requires-clause-shares c =
+    let z = c.requires.slotted in
+    (along-fits _ _ _ _ _ z.placed c.loop-i.invariant.along (omega (arith, z.within)) c.known_row-row.ensures).1
 
-pub overflow_add-p : goal.overflow_add-p
-overflow_add-p c =
-    let x = c.args in
-    let pre = c.requires.0 in
-    let known = c.known_row-row in
-    let test = c.loop-i-test in
-    let l = c.loop-i in
-    let row = row_is known.result in
-    let room = along-room x.b.now x.t l.i l.p l.s l.m row l.invariant.along (let w : x.end ≤ x.t.row_count = pre.within in omega (arith, test.true)) known.ensures in
-    omega (arith, room.panes, c.panes_used-p.ensures, pre.placed.panes.few)
-
-pub overflow_add-s : goal.overflow_add-s
-overflow_add-s c =
-    let x = c.args in
-    let pre = c.requires.0 in
-    let known = c.known_row-row in
-    let test = c.loop-i-test in
-    let l = c.loop-i in
-    let row = row_is known.result in
-    let room = along-room x.b.now x.t l.i l.p l.s l.m row l.invariant.along (let w : x.end ≤ x.t.row_count = pre.within in omega (arith, test.true)) known.ensures in
-    omega (arith, room.shares, c.shares_used-s.ensures, pre.placed.shares.few)
-
-pub overflow_add-m : goal.overflow_add-m
-overflow_add-m c =
-    let x = c.args in
-    let pre = c.requires.0 in
-    let known = c.known_row-row in
-    let test = c.loop-i-test in
-    let l = c.loop-i in
-    let row = row_is known.result in
-    let room = along-room x.b.now x.t l.i l.p l.s l.m row l.invariant.along (let w : x.end ≤ x.t.row_count = pre.within in omega (arith, test.true)) known.ensures in
-    omega (arith, room.minima, c.minima_used-m.ensures, pre.placed.minima.few)
-
-pub overflow_add-i : goal.overflow_add-i
-overflow_add-i c =
-    let x = c.args in
-    let pre = c.requires.0 in
-    omega (arith, c.loop-i-test.true, pre.within, pre.few)
-
-pub loop-i-smaller : goal.loop-i-smaller
-loop-i-smaller c = omega (arith, c.loop-i-test.true)
+pub with-taken-requires-clause-minima : goal.with-taken-requires-clause-minima
+with-taken-requires-clause-minima c =
+    let z = c.requires.slotted in
+    (along-fits _ _ _ _ _ z.placed c.loop-i.invariant.along (omega (arith, z.within)) c.known_row-row.ensures).2
 
 pub loop-i-preserved : goal.loop-i-preserved
 loop-i-preserved c =
     let x = c.args in
-    let pre = c.requires.0 in
-    let known = c.known_row-row in
-    let made = c.slot_of-slot in
-    let panes = c.panes_used-p in
     let l = c.loop-i in
-    slotting-more x.b.now x.t x.kids.now x.end pre l.i l.p l.s l.m l.heads l.ids l.shares l.minima l.invariant c.loop-i-test.true
-    (row_is known.result) panes.result c.shares_used-s.result c.minima_used-m.result made.result _ _ _ _ known.ensures panes.ensures c.shares_used-s.ensures c.minima_used-m.ensures made.ensures c.put.ensures
+    subst (λ (k : Taken). Slotting x.b.now x.t x.kids.now x.end (l.i + 1) k c.put.new.heads c.put.new.ids c.put.new.shares c.put.new.minima) (sym c.with-taken.ensures)
+    (slotting-more x.b.now x.t x.kids.now x.end c.requires.slotted l.i l.taken l.heads l.ids l.shares l.minima l.invariant c.loop-i-test.true (row_is c.known_row-row.result) c.slot_of-slot.result _ _ _ _ c.known_row-row.ensures c.slot_of-slot.ensures c.put.ensures)
 
 pub returns : goal.returns
 returns c =
     let x = c.args in
-    let pre = c.requires.0 in
     let l = c.loop-i in
-    slotting-end x.b.now x.t x.kids.now x.end pre l.i l.p l.s l.m l.heads l.ids l.shares l.minima l.invariant c.loop-i-test.false
+    slotting-end x.b.now x.t x.kids.now x.end c.requires.slotted l.i l.taken l.heads l.ids l.shares l.minima l.invariant (omega arith)

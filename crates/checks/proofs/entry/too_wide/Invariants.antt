@@ -1,12 +1,8 @@
 -- `checks::entry::too_wide`: a search along the rows. Assumes nothing.
-use Prim.Native.Nat.{◌-◌}
 use Rattle.rules.specs.Spec.{wide_row}
 use Rattle.table.specs.Rows.{rows_at}
 use Rattle.checks.specs.Entries.{Searching}
 use Rattle.checks.proofs.entry.too_wide.Given as goal
 
 abbrev pub invariant-loop-i : goal.invariant-loop-i
-invariant-loop-i l = Searching wide_row (rows_at l.b l.t) l.n l.i
-
-abbrev pub decreases-loop-i : goal.decreases-loop-i
-decreases-loop-i l = l.n - l.i
+invariant-loop-i l = Searching wide_row (rows_at l.b l.t) l.t.rows.count l.i

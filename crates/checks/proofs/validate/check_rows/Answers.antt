@@ -1,112 +1,51 @@
 -- `checks::validate::check_rows`: the walk of validation, with what is left of the sections. Assumes nothing.
-use mathlib.Core.Path.{refl, ap, sym, ◌∙◌}
-use native.Mathlib.Omega.{arith}
-use Rattle.table.specs.Row.{row_is}
+use Rattle.std.proofs.Common.{arith, refl, sym, ap, subst, ◌∙◌, ◌+◌, ◌<◌, length}
+use Rattle.std.proofs.lemmas.Grind.{common_steps}
 use Rattle.table.specs.Rows.{row_from, table_of}
-use Rattle.checks.specs.Entries.{length-entries}
+use Rattle.table.specs.declared.row.Taken.{Taken}
 use Rattle.checks.specs.Checks.{checked_as}
-use Rattle.checks.specs.Walk.{along-start, along-more, along-room}
-use Rattle.checks.specs.SplitLaws.{checking-bad, checking-more, checking-end}
+use Rattle.checks.specs.Entries.{length-entries}
+use Rattle.checks.specs.Walk.{Along, along-start, along-more, along-room, along-fits}
+use Rattle.checks.specs.SplitLaws.{Checking, checking-bad, checking-more, checking-end}
 use Rattle.checks.proofs.validate.check_rows.Goals as goal
 
-pub load_panes-panes-requires : goal.load_panes-panes-requires
-load_panes-panes-requires c = (c.requires.0, c.requires.2)
-
 pub loop-i-init : goal.loop-i-init
-loop-i-init c =
-    let bytes = c.args.b.now in
-    let t = c.args.t in
-    let table = table_of bytes t in
-    (along-start table c.requires.1, refl)
+loop-i-init c = (along-start _ c.requires.used, refl)
 
-pub known_row-row-requires : goal.known_row-row-requires
-known_row-row-requires c =
-    (c.requires.0, c.loop-i-test.true)
+pub check_row-requires-clause-room : goal.check_row-requires-clause-room
+check_row-requires-clause-room c =
+    let a = c.args in
+    along-room a.b.now a.t c.loop-i.i c.loop-i.taken _ c.loop-i.invariant.0 c.loop-i-test.true c.known_row-row.ensures
 
-pub check_row-requires : goal.check_row-requires
-check_row-requires c =
-    let at-load-panes = c.load_panes-panes in
-    let at-loop = c.loop-i in
-    let bytes = c.args.b.now in
-    let t = c.args.t in
-    let row = row_is c.known_row-row.result in
-    let room = along-room bytes t at-loop.i at-loop.p at-loop.s at-loop.m row at-loop.invariant.0 c.loop-i-test.true c.known_row-row.ensures in
-    (c.requires.0, room, at-load-panes.ensures)
+pub returns-in_err-check_row : goal.returns-in_err-check_row
+returns-in_err-check_row c =
+    let a = c.args in
+    let l = c.loop-i in
+    let inside : l.i < length (table_of a.b.now a.t).rows = omega (arith, length-entries a.b.now a.t.rows row_from) in
+    let bad = checking-bad (table_of a.b.now a.t) l.i l.taken l.invariant.1 inside _ c.known_row-row.ensures _ (ap checked_as (sym c.in_err-check_row.was) ∙ c.check_row.ensures) in
+    grind (arith, common_steps, bad)
 
-pub returns-in-Bad : goal.returns-in-Bad
-returns-in-Bad c =
-    let at-loop = c.loop-i in
-    let at-loop-test = c.loop-i-test in
-    let at-known-row = c.known_row-row in
-    let at-check-row = c.check_row in
-    let bytes = c.args.b.now in
-    let t = c.args.t in
-    let table = table_of bytes t in
-    let len = length-entries bytes t.rows t.row_count row_from in
-    let row = row_is at-known-row.result in
-    checking-bad table at-loop.i at-loop.p at-loop.s at-loop.m at-loop.invariant.1 (let q = len in omega (arith, at-loop-test.true)) row at-known-row.ensures c.in-Bad.e (ap checked_as (sym c.in-Bad.is) ∙ at-check-row.ensures)
+pub with-taken-requires-clause-panes : goal.with-taken-requires-clause-panes
+with-taken-requires-clause-panes c = (along-fits _ _ _ _ _ c.requires.placed c.loop-i.invariant.0 c.loop-i-test.true c.known_row-row.ensures).0
 
-pub overflow_add-p : goal.overflow_add-p
-overflow_add-p c =
-    let at-loop = c.loop-i in
-    let at-loop-test = c.loop-i-test in
-    let at-known-row = c.known_row-row in
-    let bytes = c.args.b.now in
-    let t = c.args.t in
-    let row = row_is at-known-row.result in
-    let room = along-room bytes t at-loop.i at-loop.p at-loop.s at-loop.m row at-loop.invariant.0 at-loop-test.true at-known-row.ensures in
-    omega (arith, room.panes, c.panes_used-p.ensures, c.requires.0.panes.few)
+pub with-taken-requires-clause-shares : goal.with-taken-requires-clause-shares
+with-taken-requires-clause-shares c = (along-fits _ _ _ _ _ c.requires.placed c.loop-i.invariant.0 c.loop-i-test.true c.known_row-row.ensures).1
 
-pub overflow_add-s : goal.overflow_add-s
-overflow_add-s c =
-    let at-loop = c.loop-i in
-    let at-loop-test = c.loop-i-test in
-    let at-known-row = c.known_row-row in
-    let bytes = c.args.b.now in
-    let t = c.args.t in
-    let row = row_is at-known-row.result in
-    let room = along-room bytes t at-loop.i at-loop.p at-loop.s at-loop.m row at-loop.invariant.0 at-loop-test.true at-known-row.ensures in
-    omega (arith, room.shares, c.shares_used-s.ensures, c.requires.0.shares.few)
-
-pub overflow_add-m : goal.overflow_add-m
-overflow_add-m c =
-    let at-loop = c.loop-i in
-    let at-loop-test = c.loop-i-test in
-    let at-known-row = c.known_row-row in
-    let bytes = c.args.b.now in
-    let t = c.args.t in
-    let row = row_is at-known-row.result in
-    let room = along-room bytes t at-loop.i at-loop.p at-loop.s at-loop.m row at-loop.invariant.0 at-loop-test.true at-known-row.ensures in
-    omega (arith, room.minima, c.minima_used-m.ensures, c.requires.0.minima.few)
-
-pub overflow_add-i : goal.overflow_add-i
-overflow_add-i c =
-    let at-loop-test = c.loop-i-test in
-    omega (arith, at-loop-test.true, c.requires.0.rows.few)
-
-pub loop-i-smaller : goal.loop-i-smaller
-loop-i-smaller c =
-    let at-loop-test = c.loop-i-test in
-    omega (arith, at-loop-test.true)
+pub with-taken-requires-clause-minima : goal.with-taken-requires-clause-minima
+with-taken-requires-clause-minima c = (along-fits _ _ _ _ _ c.requires.placed c.loop-i.invariant.0 c.loop-i-test.true c.known_row-row.ensures).2
 
 pub loop-i-preserved : goal.loop-i-preserved
 loop-i-preserved c =
-    let at-loop = c.loop-i in
-    let at-loop-test = c.loop-i-test in
-    let at-known-row = c.known_row-row in
-    let at-check-row = c.check_row in
-    let at-panes-used = c.panes_used-p in
-    let bytes = c.args.b.now in
-    let t = c.args.t in
-    let table = table_of bytes t in
-    let row = row_is at-known-row.result in
-    let len = length-entries bytes t.rows t.row_count row_from in
-    (along-more table at-loop.i at-loop.p at-loop.s at-loop.m row at-panes-used.result c.shares_used-s.result c.minima_used-m.result at-loop.invariant.0 (let q = len in omega (arith, at-loop-test.true)) at-known-row.ensures at-panes-used.ensures c.shares_used-s.ensures c.minima_used-m.ensures, checking-more table at-loop.i at-loop.p at-loop.s at-loop.m at-loop.invariant.1 (let q = len in omega (arith, at-loop-test.true)) row at-known-row.ensures at-panes-used.result c.shares_used-s.result c.minima_used-m.result at-panes-used.ensures c.shares_used-s.ensures c.minima_used-m.ensures (ap checked_as (sym c.in_default.is) ∙ at-check-row.ensures))
+    let a = c.args in
+    let l = c.loop-i in
+    let table = table_of a.b.now a.t in
+    let inside : l.i < length table.rows = omega (arith, length-entries a.b.now a.t.rows row_from) in
+    subst (λ (k : Taken). Along table (l.i + 1) k × Checking table (l.i + 1) k) (sym c.with-taken.ensures) (
+      along-more table l.i l.taken _ l.invariant.0 inside c.known_row-row.ensures,
+      checking-more table l.i l.taken l.invariant.1 inside _ c.known_row-row.ensures (ap checked_as (sym c.in_ok-check_row.was) ∙ c.check_row.ensures),
+    )
 
 pub returns : goal.returns
 returns c =
-    let bytes = c.args.b.now in
-    let t = c.args.t in
-    let table = table_of bytes t in
-    let len = length-entries bytes t.rows t.row_count row_from in
-    checking-end table c.loop-i.i c.loop-i.p c.loop-i.s c.loop-i.m c.loop-i.invariant.1 (let q = len in omega (arith, c.loop-i-test.false))
+    let a = c.args in
+    checking-end (table_of a.b.now a.t) _ _ c.loop-i.invariant.1 (omega (arith, length-entries a.b.now a.t.rows row_from))

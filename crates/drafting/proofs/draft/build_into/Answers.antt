@@ -1,68 +1,28 @@
 -- `drafting::draft::build_into`: the refusals in their order. Assumes nothing.
-use mathlib.Core.Path.{ap, sym, subst, ◌∙◌}
-use Rattle.table.specs.Rows.{TableIs}
-use Rattle.checks.specs.Checks.{checked_as}
+use Rattle.std.proofs.Common.{arith}
+use Rattle.std.proofs.lemmas.Grind.{common_steps}
 use Rattle.checks.specs.LoadLaws.{panes-few}
-use Rattle.drafting.specs.DraftLaws.{built-refused, built-accepted, draft-bad, draft-full, draft-wide, draft-refused, draft-built, passed}
-use Rattle.table.specs.declared.sections.Sections.{Sections}
+use Rattle.rules.specs.declared.refusal.Refusal.TheVariants.{BadTable}
+use Rattle.drafting.specs.DraftLaws.{built-refused, built-said, built-accepted, draft-bad, draft-full, draft-wide, draft-refused, draft-built, passed}
 use Rattle.drafting.proofs.draft.build_into.Goals as goal
 
-pub returns-in_default : goal.returns-in_default
-returns-in_default c =
-    let bytes = c.args.b.now in
-    built-refused _ _ _ _ _ _ _ (draft-bad bytes (subst (λ (r : Sections). TableIs bytes r) c.in_default.is c.read_table.ensures))
+pub returns-in_err-t : goal.returns-in_err-t
+returns-in_err-t c = built-said _ _ BadTable _ _ _ _ _ (grind (arith, common_steps)) (grind (arith, common_steps, draft-bad))
 
 pub returns-then-t-gt64 : goal.returns-then-t-gt64
-returns-then-t-gt64 c =
-    let bytes = c.args.b.now in
-    let t = c.in-Four.t in
-    let w = subst (λ (r : Sections). TableIs bytes r) c.in-Four.is c.read_table.ensures in
-    built-refused _ _ _ _ _ _ _ (draft-full bytes t w c.if-t-gt64.true)
-
-pub too_wide-requires : goal.too_wide-requires
-too_wide-requires c =
-    let bytes = c.args.b.now in
-    let t = c.in-Four.t in
-    let w = subst (λ (r : Sections). TableIs bytes r) c.in-Four.is c.read_table.ensures in
-    w.placed
+returns-then-t-gt64 c = built-refused _ _ _ _ _ _ _ (grind (arith, common_steps, draft-full))
 
 pub returns-then-too_wide : goal.returns-then-too_wide
-returns-then-too_wide c =
-    let bytes = c.args.b.now in
-    let t = c.in-Four.t in
-    let w = subst (λ (r : Sections). TableIs bytes r) c.in-Four.is c.read_table.ensures in
-    built-refused _ _ _ _ _ _ _ (draft-wide bytes t w c.if-t-gt64.false (sym c.if-too_wide.true ∙ c.too_wide.ensures))
+returns-then-too_wide c = built-refused _ _ _ _ _ _ _ (grind (arith, common_steps, draft-wide))
 
-pub check_rows-requires : goal.check_rows-requires
-check_rows-requires c =
-    let bytes = c.args.b.now in
-    let t = c.in-Four.t in
-    let w = subst (λ (r : Sections). TableIs bytes r) c.in-Four.is c.read_table.ensures in
-    let g = sym c.if-too_wide.false ∙ c.too_wide.ensures in
-    (w.placed, w.used, panes-few bytes t w.used c.if-t-gt64.false (sym g))
+pub check_rows-requires-clause-few : goal.check_rows-requires-clause-few
+check_rows-requires-clause-few c = grind (arith, common_steps, panes-few)
 
-pub returns-in-Bad : goal.returns-in-Bad
-returns-in-Bad c =
-    let bytes = c.args.b.now in
-    let t = c.in-Four.t in
-    let w = subst (λ (r : Sections). TableIs bytes r) c.in-Four.is c.read_table.ensures in
-    let g = sym c.if-too_wide.false ∙ c.too_wide.ensures in
-    built-refused _ _ _ _ _ _ _ (draft-refused bytes t w c.if-t-gt64.false g c.in-Bad.e (ap checked_as (sym c.in-Bad.is) ∙ c.check_rows.ensures))
+pub returns-in_err-check_rows : goal.returns-in_err-check_rows
+returns-in_err-check_rows c = built-said _ _ c.in_err-check_rows.field-0.0 _ _ _ _ _ (grind (arith, common_steps)) (grind (arith, common_steps, draft-refused))
 
-pub built_into-requires : goal.built_into-requires
-built_into-requires c =
-    let bytes = c.args.b.now in
-    let t = c.in-Four.t in
-    let w = subst (λ (r : Sections). TableIs bytes r) c.in-Four.is c.read_table.ensures in
-    let g = sym c.if-too_wide.false ∙ c.too_wide.ensures in
-    let good = ap checked_as (sym c.in_default-check_rows.is) ∙ c.check_rows.ensures in
-    (passed bytes t w c.if-t-gt64.false g good, c.requires)
+pub built_into-requires-clause-passed : goal.built_into-requires-clause-passed
+built_into-requires-clause-passed c = grind (arith, common_steps, passed)
 
 pub returns : goal.returns
-returns c =
-    let bytes = c.args.b.now in
-    let t = c.in-Four.t in
-    let w = subst (λ (r : Sections). TableIs bytes r) c.in-Four.is c.read_table.ensures in
-    let g = sym c.if-too_wide.false ∙ c.too_wide.ensures in
-    let good = ap checked_as (sym c.in_default-check_rows.is) ∙ c.check_rows.ensures in
-    built-accepted _ _ _ _ _ _ _ (draft-built bytes t w c.if-t-gt64.false g good) c.built_into.ensures
+returns c = built-accepted _ _ _ _ _ _ _ (grind (arith, common_steps, draft-built)) (c.built_into.ensures.shown, c.built_into.ensures.plain)

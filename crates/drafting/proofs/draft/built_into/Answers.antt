@@ -2,12 +2,11 @@
 use Rattle.drafting.specs.DraftLaws.{slotted, built-shown}
 use Rattle.drafting.proofs.draft.built_into.Goals as goal
 
-pub slots_into-requires : goal.slots_into-requires
-slots_into-requires c =
-    let push = c.push_spec-end in
-    (slotted c.args.b.now c.args.t c.requires.0 _ _ push.result push.ensures, c.requires.1)
+pub slots_into-requires-clause-slotted : goal.slots_into-requires-clause-slotted
+slots_into-requires-clause-slotted c = let push = c.push_spec-end in slotted c.args.b.now c.args.t c.requires.passed _ _ push.result push.ensures
 
 pub returns : goal.returns
 returns c =
     let push = c.push_spec-end in
-    built-shown c.args.b.now c.args.t c.requires.0 _ _ push.result _ _ _ _ push.ensures c.slots_into.ensures
+    let made = built-shown c.args.b.now c.args.t c.requires.passed _ _ push.result _ _ _ _ push.ensures c.slots_into.ensures in
+    record { shown = made.0; plain = made.1 }

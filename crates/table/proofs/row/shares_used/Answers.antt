@@ -1,9 +1,0 @@
--- `table::row::shares_used`: a split alone takes shares. Assumes nothing.
-use mathlib.Core.Path.{ap, sym}
-use Rattle.rules.specs.Table.{shares_used}
-use Rattle.table.specs.Row.{row_is}
-use Rattle.table.specs.declared.row.TableRow.{TableRow}
-use Rattle.table.proofs.row.shares_used.Goals as goal
-
-pub returns-in-Split : goal.returns-in-Split
-returns-in-Split c = ap (λ (r : TableRow). shares_used (row_is r)) (sym c.in-Split.is)
