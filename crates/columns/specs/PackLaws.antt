@@ -23,9 +23,9 @@ use Rattle.forest.specs.Still.{none_lost}
 use Rattle.forest.specs.Sweep.{swept_by, actions_by}
 use Rattle.lists.specs.Tests.{Flagged, flagged-more}
 use Rattle.columns.specs.Columns.{bar_from, axis_from, node_by, node_from, nodes_from, code_of, Lists, Noted, Slim}
-use Rattle.columns.specs.Pack.{head_by, head_of, slot_of, ids_by, ids_of, shares_of, minima_of, swept_head, Sweeps, action_by, action_from, listed_from, action_of, Unpacks, over_head, over_of, over_kind, first_of, NoneLost}
+use Rattle.columns.specs.Pack.{head_by, head_of, slot_of, ids_by, ids_of, shares_of, minima_of, swept_head, Sweeps, action_by, action_from, listed_from, action_of, Unpacks, over_head, over_of, over_kind, first_of, NoneLost, Puts}
 use Rattle.columns.specs.declared.Listed.{Listed}
-use Rattle.columns.specs.ColumnLaws.{nodes-long, nodes-at, split-of}
+use Rattle.columns.specs.ColumnLaws.{nodes-long, split-of}
 use Rattle.columns.specs.OverLaws.{over-split, any-alike}
 
 -- ---- a loop that fills an array from the front with the entries of another list
@@ -179,49 +179,36 @@ module _ (hs xs : List (List ℕ)) (ss ms : List (List Float)) where
     pub within : i ≤ 64
     pub shown : Copied (nodes_from hs xs ss ms) i (map view_slot a)
     pub over : Copied (map over_of hs) i (map over_slot a)
-    pub heads : length hs ≡ 64
-    pub ids : length xs ≡ 64
-    pub shares : length ss ≡ 64
-    pub minima : length ms ≡ 64
 
-  pub packing-start : (s : Slot) → length hs ≡ 64 → length xs ≡ 64 → length ss ≡ 64 → length ms ≡ 64 → Packing 0 (replicate 64 s)
-  packing-start s lh lx ls lm =
-      record {
-        within = omega arith;
-        shown =
-            copied_none (nodes_from hs xs ss ms) (map view_slot (replicate 64 s))
-            (length-map (replicate 64 s) view_slot ∙ length-replicate 64 s ∙ sym (nodes-long hs xs ss ms lh lx ls lm));
-        over = mapped-none over_of hs 64 lh (map over_slot (replicate 64 s)) (length-map (replicate 64 s) over_slot ∙ length-replicate 64 s);
-        heads = lh;
-        ids = lx;
-        shares = ls;
-        minima = lm;
-      }
+  module _ (lh : length hs ≡ 64) (lx : length xs ≡ 64) (ls : length ss ≡ 64) (lm : length ms ≡ 64) where
+    pub packing-start : (s : Slot) → Packing 0 (replicate 64 s)
+    packing-start s =
+        record {
+          within = omega arith;
+          shown =
+              copied_none (nodes_from hs xs ss ms) (map view_slot (replicate 64 s))
+              (length-map (replicate 64 s) view_slot ∙ length-replicate 64 s ∙ sym (nodes-long hs xs ss ms lh lx ls lm));
+          over = mapped-none over_of hs 64 lh (map over_slot (replicate 64 s)) (length-map (replicate 64 s) over_slot ∙ length-replicate 64 s);
+        }
 
-  pub packing-more : (i : ℕ) (a : List Slot) (s : Slot) → Packing i a → i < 64 → Made s (get_or hs i []) (get_or xs i []) (get_or ss i []) (get_or ms i [])
-      → Packing (i + 1) (set a i s)
-  packing-more i a s P lt m =
-      record {
-        within = omega arith;
-        shown =
-            subst (λ (l : List Node). Copied (nodes_from hs xs ss ms) (i + 1) l) (sym (map-set view_slot a i s))
-            (copied_more (nodes_from hs xs ss ms) (map view_slot a) i empty (view_slot s) P.shown
-            (omega (arith, nodes-long hs xs ss ms P.heads P.ids P.shares P.minima))
-            (m.0 ∙ sym (nodes-at hs xs ss ms P.heads P.ids P.shares P.minima i)));
-        over =
-            subst (λ (l : List Bool). Copied (map over_of hs) (i + 1) l) (sym (map-set over_slot a i s))
-            (mapped-more over_of hs 64 P.heads (map over_slot a) i [] false (over_slot s) P.over lt m.1);
-        heads = P.heads;
-        ids = P.ids;
-        shares = P.shares;
-        minima = P.minima;
-      }
+    pub packing-more : (i : ℕ) (a : List Slot) (s : Slot) → Packing i a → i < 64
+        → (view_slot s ≡ get_or (nodes_from hs xs ss ms) i empty) × (over_slot s ≡ over_of (get_or hs i [])) → Packing (i + 1) (set a i s)
+    packing-more i a s P lt m =
+        record {
+          within = omega arith;
+          shown =
+              subst (λ (l : List Node). Copied (nodes_from hs xs ss ms) (i + 1) l) (sym (map-set view_slot a i s))
+              (copied_more (nodes_from hs xs ss ms) (map view_slot a) i empty (view_slot s) P.shown (omega (arith, nodes-long hs xs ss ms lh lx ls lm)) m.0);
+          over =
+              subst (λ (l : List Bool). Copied (map over_of hs) (i + 1) l) (sym (map-set over_slot a i s))
+              (mapped-more over_of hs 64 lh (map over_slot a) i [] false (over_slot s) P.over lt m.1);
+        }
 
-  pub packing-all : (i : ℕ) (a : List Slot) → Packing i a → 64 ≤ i → (map view_slot a ≡ nodes_from hs xs ss ms) × (any_of over_slot a ≡ any_of over_of hs)
-  packing-all i a P le = (
-    copied_all (nodes_from hs xs ss ms) (map view_slot a) i P.shown (omega (arith, nodes-long hs xs ss ms P.heads P.ids P.shares P.minima)),
-    any-alike over_slot over_of a hs (mapped-all over_of hs 64 P.heads (map over_slot a) i P.over le),
-  )
+    pub packing-all : (i : ℕ) (a : List Slot) → Packing i a → 64 ≤ i → (map view_slot a ≡ nodes_from hs xs ss ms) × (any_of over_slot a ≡ any_of over_of hs)
+    packing-all i a P le = (
+      copied_all (nodes_from hs xs ss ms) (map view_slot a) i P.shown (omega (arith, nodes-long hs xs ss ms lh lx ls lm)),
+      any-alike over_slot over_of a hs (mapped-all over_of hs 64 lh (map over_slot a) i P.over le),
+    )
 
 -- ---- the sweep, over the heads alone: whether a slot is empty stands in its head
 
@@ -525,16 +512,16 @@ module _ (s : List Slot) (size : length s ≡ 64) where
   unpacking-none hs xs ss ms a b c d =
       record { size = size; within = omega arith; heads = mapped-none head_of s 64 size hs a; ids = mapped-none ids_of s 64 size xs b; shares = mapped-none shares_of s 64 size ss c; minima = mapped-none minima_of s 64 size ms d }
 
-  pub unpacking-more : (hs xs : List (List ℕ)) (ss ms : List (List Float)) (i : ℕ) (d : Slot) (h x : List ℕ) (y m : List Float) → Unpacking s i hs xs ss ms → i < 64
-      → h ≡ head_of (get_or s i d) → x ≡ ids_of (get_or s i d) → y ≡ shares_of (get_or s i d) → m ≡ minima_of (get_or s i d) → Unpacking s (i + 1) (set hs i h) (set xs i x) (set ss i y) (set ms i m)
-  unpacking-more hs xs ss ms i d h x y m U lt a b c e =
+  pub unpacking-more : (hs xs : List (List ℕ)) (ss ms : List (List Float)) (i : ℕ) (d : Slot) (hs' xs' : List (List ℕ)) (ss' ms' : List (List Float)) → Unpacking s i hs xs ss ms → i < 64
+      → Puts i (get_or s i d) hs xs ss ms hs' xs' ss' ms' → Unpacking s (i + 1) hs' xs' ss' ms'
+  unpacking-more hs xs ss ms i d hs' xs' ss' ms' U lt P =
       record {
         size = size;
         within = omega arith;
-        heads = mapped-more head_of s 64 size hs i d [] h U.heads lt a;
-        ids = mapped-more ids_of s 64 size xs i d [] x U.ids lt b;
-        shares = mapped-more shares_of s 64 size ss i d [] y U.shares lt c;
-        minima = mapped-more minima_of s 64 size ms i d [] m U.minima lt e;
+        heads = subst (Copied (map head_of s) (i + 1)) (sym P.heads) (mapped-more head_of s 64 size hs i d [] _ U.heads lt refl);
+        ids = subst (Copied (map ids_of s) (i + 1)) (sym P.ids) (mapped-more ids_of s 64 size xs i d [] _ U.ids lt refl);
+        shares = subst (Copied (map shares_of s) (i + 1)) (sym P.shares) (mapped-more shares_of s 64 size ss i d [] _ U.shares lt refl);
+        minima = subst (Copied (map minima_of s) (i + 1)) (sym P.minima) (mapped-more minima_of s 64 size ms i d [] _ U.minima lt refl);
       }
 
   pub unpacking-all : (hs xs : List (List ℕ)) (ss ms : List (List Float)) (i : ℕ) → Unpacking s i hs xs ss ms → 64 ≤ i → Unpacks s hs xs ss ms
