@@ -5,7 +5,7 @@ use Rattle.std.proofs.lemmas.Bool.Decides.{nat_tests}
 use Rattle.std.specs.List.{list_any}
 use mathlib.Core.List.{List, [], ◌∷◌, ◌++◌, map, map-append}
 use lib.Pointwise.{pointwise}
-use Rattle.rules.specs.Lists.{any_of}
+use Rattle.rules.specs.Lists.{any_of, contains}
 use Rattle.rules.specs.Repair.{action_code, action_tile, action_pane, same_action, added_by, added}
 use Rattle.rules.specs.declared.model.RepairAction.{RepairAction}
 use Rattle.columns.specs.Columns.{code_of, Noted}
@@ -22,6 +22,12 @@ and_ends false q r = refl
 
 eqb-turned : (m n : ℕ) → eqb m n ≡ eqb n m
 eqb-turned m n = grind (arith, nat_tests)
+
+-- std's `contains`, of numbers, is the rules'
+pub contains-listed : (x : ℕ) (ys : List ℕ) → list_any (λ y. eqb y x) ys ≡ contains x ys
+unfolding any_of
+contains-listed x [] = refl
+contains-listed x (y ∷ ys) = λ z. eqb-turned y x z || contains-listed x ys z
 
 -- two rows are the same where their actions are
 row_same : (a b : RepairAction) → same_action a b ≡ pointwise eqb (code_of b) (code_of a)

@@ -18,7 +18,7 @@ returns-in-At c =
     let a = c.args in
     let s : length a.panes.at ≡ 16 = search (rules, c.well_formed) in
     sym (ap (λ (p : Place). or_first (place_of p)) c.in-At.is)
-    ∙ active-at a.panes.len a.active a.panes.at (ids a.kept) c.get-pane.result c.position-place.result (omega (arith, c.requires.0))
+    ∙ active-at a.panes.len a.active a.panes.at (ids a.kept) c.get-pane.result c.position-place.result (omega (arith, c.requires.few))
     c.if-panes-active.false c.get-pane.ensures c.position-place.ensures
 
 pub returns-in-Nothing : goal.returns-in-Nothing
@@ -26,5 +26,5 @@ returns-in-Nothing c =
     let a = c.args in
     let s : length a.panes.at ≡ 16 = search (rules, c.well_formed) in
     sym (ap (λ (p : Place). or_first (place_of p)) c.in-Nothing.is)
-    ∙ active-at a.panes.len a.active a.panes.at (ids a.kept) c.get-pane.result c.position-place.result (omega (arith, c.requires.0))
+    ∙ active-at a.panes.len a.active a.panes.at (ids a.kept) c.get-pane.result c.position-place.result (omega (arith, c.requires.few))
     c.if-panes-active.false c.get-pane.ensures c.position-place.ensures
