@@ -28,7 +28,7 @@ pub fn pane_step(
     c: Counts,
     id: u64,
 ) -> Walk
-    requires open { Open heads.old claimed.old c id }
+    requires slot { Open heads.old claimed.old c id }
     requires pane { get_or (get_or heads.old id []) 0 0 ≡ 1 }
     ensures { LeafWalked heads.old claimed.old seen.old acts.old c heads.new claimed.new seen.new acts.new result.counts result.kept id }
 {
@@ -65,7 +65,7 @@ pub fn group_step(
     c: Counts,
     id: u64,
 ) -> Walk
-    requires open { Open heads.old claimed.old c id }
+    requires slot { Open heads.old claimed.old c id }
     requires group { get_or (get_or heads.old id []) 0 0 ≡ 2 }
     requires few { get_or (get_or heads.old id []) 4 0 ≤ 16 }
     ensures { GroupWalked heads.old ids.old claimed.old seen.old acts.old c heads.new ids.new claimed.new seen.new acts.new result.counts result.kept id }

@@ -10,7 +10,7 @@ use Rattle.sifting.proofs.leaves.group_step.Goals as goal
 pub retain-s-requires : goal.retain-s-requires
 retain-s-requires c =
     let a = c.args in
-    let o = open-room a.heads.now a.claimed.now a.c a.id c.requires.open in
+    let o = open-room a.heads.now a.claimed.now a.c a.id c.requires.slot in
     let s : a.c.seen + 16 ≤ 1024 = o.0 in
     let m : a.c.acts + 16 ≤ 1300 = omega (arith, o.1) in
     record { few = c.requires.few; sights = s; listing = m }
@@ -18,7 +18,7 @@ retain-s-requires c =
 pub note-n-requires : goal.note-n-requires
 note-n-requires c =
     let a = c.args in
-    let o = open-room a.heads.now a.claimed.now a.c a.id c.requires.open in
+    let o = open-room a.heads.now a.claimed.now a.c a.id c.requires.slot in
     let f = retains-few _ _ _ _ _ _ _ _ _ _ c.retain-s.ensures c.requires.few in
     let h : c.retain-s.result.counts.acts < 1300 = omega (arith, o.1, f.1) in
     h
@@ -26,7 +26,7 @@ note-n-requires c =
 pub returns-then-kept-eq0 : goal.returns-then-kept-eq0
 returns-then-kept-eq0 c ss ms S =
     let a = c.args in
-    group-none a.heads.now a.ids.now ss ms a.claimed.now a.seen.now a.acts.now a.c a.id S c.requires.open c.requires.group
+    group-none a.heads.now a.ids.now ss ms a.claimed.now a.seen.now a.acts.now a.c a.id S c.requires.slot c.requires.group
     _ _ c.retain-s.result.list c.retain-s.result.counts c.retain-s.ensures
     (replicate 8 0) _ c.note-n.result refl (omega arith, omega arith, omega arith) c.if-kept-eq0.true
     c.note-n.ensures
@@ -39,7 +39,7 @@ active_of-active-requires c =
 pub note_if-n-requires : goal.note_if-n-requires
 note_if-n-requires c =
     let a = c.args in
-    let o = open-room a.heads.now a.claimed.now a.c a.id c.requires.open in
+    let o = open-room a.heads.now a.claimed.now a.c a.id c.requires.slot in
     let f = retains-few _ _ _ _ _ _ _ _ _ _ c.retain-s.ensures c.requires.few in
     let h : c.retain-s.result.counts.acts < 1300 = omega (arith, o.1, f.1) in
     h
@@ -49,7 +49,7 @@ returns c ss ms S =
     let a = c.args in
     let f = retains-few _ _ _ _ _ _ _ _ _ _ c.retain-s.ensures c.requires.few in
     let l = c.retain-s.result.list in
-    group-some a.heads.now a.ids.now ss ms a.claimed.now a.seen.now a.acts.now a.c a.id S c.requires.open c.requires.group
+    group-some a.heads.now a.ids.now ss ms a.claimed.now a.seen.now a.acts.now a.c a.id S c.requires.slot c.requires.group
     _ _ l c.retain-s.result.counts c.retain-s.ensures
     (2 ∷ get_or (get_or a.heads.now a.id []) 1 0 ∷ 0 ∷ c.active_of-active.result ∷ l.len ∷ 0 ∷ 0 ∷ 0 ∷ []) _ c.note_if-n.result
     refl refl c.active_of-active.ensures refl (f.0, omega arith, omega arith) c.if-kept-eq0.false
