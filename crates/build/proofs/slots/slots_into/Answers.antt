@@ -30,13 +30,6 @@ slot_of-slot-requires c =
     let room = along-room x.b.now x.t l.i l.p l.s l.m row l.invariant.along (let w : x.end ≤ x.t.row_count = pre.within in omega (arith, c.loop-i-test.true)) c.known_row-row.ensures in
     (pre.placed, room, subst (λ (r : Row). Fit r) (sym c.known_row-row.ensures) (pre.fit l.i (let w : x.end ≤ x.t.row_count = pre.within in omega (arith, c.loop-i-test.true))), pre.size, omega (arith, c.loop-i-test.true, pre.within, pre.few))
 
-pub put-requires : goal.put-requires
-put-requires c =
-    let x = c.args in
-    let pre = c.requires.0 in
-    let e = c.loop-i.invariant.even in
-    (e.heads, e.ids, e.shares, e.minima, omega (arith, c.loop-i-test.true, pre.within, pre.few))
-
 pub overflow_add-p : goal.overflow_add-p
 overflow_add-p c =
     let x = c.args in

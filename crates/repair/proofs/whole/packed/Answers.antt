@@ -3,11 +3,6 @@ use mathlib.Core.Path.{refl}
 use Rattle.repair.proofs.PackedLaws.{packs-accepted, packs-refused}
 use Rattle.repair.proofs.whole.packed.Goals as goal
 
-pub pack-slots-requires : goal.pack-slots-requires
-pack-slots-requires c =
-    let p = c.requires.plain c.in-Accepted.is in
-    (p.heads, p.ids, p.shares, p.minima)
-
 pub returns-in-Accepted : goal.returns-in-Accepted
 returns-in-Accepted c =
     let x = c.args in
