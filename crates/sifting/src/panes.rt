@@ -7,7 +7,6 @@ ghost use Rattle.rules.specs.Tree as Tree;
 ghost use Rattle.sifting.specs.Steps.{Sifts, Retains};
 
 use crate::Counts;
-use lists::ids;
 use noting::actions;
 use rules::model::{Ids, RepairAction, TileId};
 
@@ -57,7 +56,7 @@ fn keep_pane(seen: &mut [u64; 1024], acts: &mut [[u64; 3]], s: Sift, id: u64, pa
     }
     let n = see(seen, c.seen, pane);
     Sift {
-        list: ids::push(s.list, pane),
+        list: lists::push(s.list, pane),
         counts: Counts { seen: n, ..c },
     }
 }
@@ -72,7 +71,7 @@ pub fn retain(seen: &mut [u64; 1024], acts: &mut [[u64; 3]], c: Counts, id: u64,
     let at = panes.at;
     let n = panes.len;
     let mut s = Sift {
-        list: ids::empty(),
+        list: lists::empty(),
         counts: c,
     };
     for j in 0..n {
@@ -90,10 +89,6 @@ pub fn active_of(panes: Ids, active: usize, kept: Ids) -> usize
     if panes.len <= active {
         return 0;
     }
-    let pane = ids::get(panes, active, 0);
-    let place = ids::position(kept, pane);
-    match place {
-        lists::Place::At(i) => i,
-        lists::Place::Nothing => 0,
-    }
+    let pane = lists::get(panes, active, 0);
+    lists::position(kept, pane).unwrap_or(0)
 }

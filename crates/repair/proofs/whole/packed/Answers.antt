@@ -3,12 +3,12 @@ use mathlib.Core.Path.{refl}
 use Rattle.repair.proofs.PackedLaws.{packs-accepted, packs-refused}
 use Rattle.repair.proofs.whole.packed.Goals as goal
 
-pub returns-in-Accepted : goal.returns-in-Accepted
-returns-in-Accepted c =
+pub returns-in-Ok : goal.returns-in-Ok
+returns-in-Ok c =
     let x = c.args in
-    packs-accepted x.t x.s x.heads.now x.ids.now x.shares.now x.minima.now x.acts.now _ c.in-Accepted.is refl refl refl c.pack-slots.ensures c.report-actions.ensures.0
+    packs-accepted x.t x.s x.heads.now x.ids.now x.shares.now x.minima.now x.acts.now _ c.in-Ok.is refl refl refl c.pack-slots.ensures c.report-actions.ensures.0
 
-pub returns-in-Refused : goal.returns-in-Refused
-returns-in-Refused c =
+pub returns-in-Err : goal.returns-in-Err
+returns-in-Err c =
     let x = c.args in
-    packs-refused x.t x.s x.heads.now x.ids.now x.shares.now x.minima.now x.acts.now c.refused.result c.in-Refused.e c.in-Refused.is c.refused.ensures
+    packs-refused x.t x.s x.heads.now x.ids.now x.shares.now x.minima.now x.acts.now c.refused.result c.in-Err.e c.in-Err.is c.refused.ensures
