@@ -1,6 +1,7 @@
 -- Laws of lists given longer than 16, as the heads tell them. Assumes nothing.
 use Rattle.std.specs.Prelude.{◌≡◌, refl, Bool, false, ◌||◌, List, [], ◌∷◌, map, ℕ, zero, suc, get_or}
 use Rattle.std.proofs.Common.{sym, ap, ◌∙◌, le-ltb}
+use Rattle.std.specs.List.{list_any}
 use Rattle.rules.specs.Lists.{any_of}
 use Rattle.columns.specs.Columns.{Slim}
 use Rattle.columns.specs.Pack.{over_head, over_kind, over_of}
@@ -32,3 +33,9 @@ any-map f (x ∷ xs) = λ z. f x || any-map f xs z
 
 pub any-alike : {A B : Type 0} (f : A → Bool) (g : B → Bool) (xs : List A) (ys : List B) → map f xs ≡ map g ys → any_of f xs ≡ any_of g ys
 any-alike f g xs ys e = any-map f xs ∙ ap (any_of (λ (b : Bool). b)) e ∙ sym (any-map g ys)
+
+-- std's `list_any` is the rules' `any_of`
+pub any-listed : {A : Type 0} (t : A → Bool) (xs : List A) → list_any t xs ≡ any_of t xs
+unfolding any_of
+any-listed t [] = refl
+any-listed t (x ∷ xs) = λ z. t x || any-listed t xs z

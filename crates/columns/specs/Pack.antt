@@ -11,7 +11,6 @@ use Rattle.rules.specs.declared.model.RepairAction.TheVariants.{RemovedInvalidNo
 use Rattle.forest.specs.Sweep.{swept_by, actions_by}
 use Rattle.forest.specs.Still.{none_lost}
 use Rattle.columns.specs.Columns.{nodes_from, Lists, Slim}
-use Rattle.columns.specs.declared.Listed.{Listed}
 use Rattle.columns.specs.declared.Report.{Report}
 
 -- ---- a slot's row in each column
@@ -120,11 +119,5 @@ action_by (suc (suc (suc (suc (suc n))))) t p = RemovedDuplicatePane p t
 abbrev pub action_from : List ℕ → RepairAction
 action_from a = action_by (get_or a 0 0) (tile (get_or a 1 0)) (get_or a 2 0)
 
-abbrev pub listed_from : List ℕ → Listed
-listed_from a = record { action = action_from a }
-
-abbrev pub action_of : Listed → RepairAction
-action_of a = a.action
-
 abbrev pub reported : Report → List RepairAction
-reported r = map action_of (take r.len r.at)
+reported r = take r.len r.at

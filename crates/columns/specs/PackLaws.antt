@@ -3,6 +3,7 @@ use Rattle.std.specs.Prelude.{◌≡◌, refl, Bool, not, ◌||◌, ◌&&◌, �
 use Rattle.std.proofs.Common.{sym, ap, subst, ◌∙◌, arith, not-suc-le-zero, le_of_suc-le-suc, add-one, ne_eqb, eq-eqb, length-set, take-suc, take-suc-set, take_all, drop-cons, drop-drop, drop-set-lt}
 use Rattle.std.proofs.Math.Bool.{true, false}
 use mathlib.Core.List.{List, [], ◌∷◌, ◌++◌, map}
+use Rattle.std.proofs.Math.Seq.{set-get_or}
 use Rattle.std.proofs.lemmas.Bool.{not-true, not-false}
 use Rattle.std.proofs.Math.ListN.{length, drop_of_length-le}
 use Rattle.std.proofs.lemmas.List.{length-map, length-replicate}
@@ -21,12 +22,10 @@ use Rattle.rules.specs.declared.model.RepairAction.{RepairAction}
 use Rattle.rules.specs.declared.model.RepairAction.TheVariants.{RemovedInvalidNode, RepairedActiveTab, RepairedShares, RepairedConstraints, CollapsedSplit, RemovedDuplicatePane}
 use Rattle.forest.specs.Still.{none_lost}
 use Rattle.forest.specs.Sweep.{swept_by, actions_by}
-use Rattle.lists.specs.Tests.{Flagged, flagged-more}
 use Rattle.columns.specs.Columns.{bar_from, axis_from, node_by, node_from, nodes_from, code_of, Lists, Noted, Slim}
-use Rattle.columns.specs.Pack.{head_by, head_of, slot_of, ids_by, ids_of, shares_of, minima_of, swept_head, Sweeps, action_by, action_from, listed_from, action_of, Unpacks, over_head, over_of, over_kind, first_of, NoneLost}
-use Rattle.columns.specs.declared.Listed.{Listed}
-use Rattle.columns.specs.ColumnLaws.{nodes-long, nodes-at, split-of}
-use Rattle.columns.specs.OverLaws.{over-split, any-alike}
+use Rattle.columns.specs.Pack.{head_by, head_of, slot_of, ids_by, ids_of, shares_of, minima_of, swept_head, Sweeps, action_by, action_from, Unpacks, over_head, over_of, first_of, NoneLost, Puts}
+use Rattle.columns.specs.ColumnLaws.{nodes-long}
+use Rattle.columns.specs.OverLaws.{any-alike}
 
 -- ---- a loop that fills an array from the front with the entries of another list
 
@@ -74,15 +73,6 @@ module _ {A B : Type 0} (f : A → B) where
 
     pub mapped-all : (l : List B) (i : ℕ) → Copied (map f s) i l → n ≤ i → l ≡ map f s
     mapped-all l i C le = copied_all (map f s) l i C (omega (arith, length-map s f))
-
--- ---- a search that has not ended
-
-module _ {A : Type 0} (t : A → Bool) (xs : List A) (i : ℕ) (d : A) (h : i < length xs) where
-  pub not_yet : t (get_or xs i d) ≡ false → Flagged t xs i false → Flagged t xs (i + 1) false
-  not_yet e w = subst (λ (b : Bool). Flagged t xs (i + 1) b) e (flagged-more t xs i d false h w)
-
-  pub found : t (get_or xs i d) ≡ true → Flagged t xs i false → true ≡ any_of t xs
-  found e w = subst (λ (b : Bool). Flagged t xs (i + 1) b) e (flagged-more t xs i d false h w)
 
 -- ---- slots to columns
 
@@ -133,36 +123,8 @@ tiles-take zero xs = refl
 tiles-take (suc n) [] = refl
 tiles-take (suc n) (x ∷ xs) = ap (λ (l : List TileId). tile x ∷ l) (tiles-take n xs)
 
--- the slot that is made shows its row, and has a list too long where the row has
 module _ (s : Slot) (h xs : List ℕ) (ss ms : List Float) where
-  abbrev pub Made : Type 0
-  Made = (view_slot s ≡ node_from h xs ss ms) × (over_slot s ≡ over_of h)
-
-  made_by : (k : ℕ) (x : Kind) → get_or h 0 0 ≡ k → s.kind ≡ x → node_of x s ≡ node_by k h xs ss ms → over_by x s ≡ over_kind k h → Made
-  made_by k x e i v o =
-      (ap (λ (y : Kind). node_of y s) i ∙ v ∙ ap (λ (n : ℕ). node_by n h xs ss ms) (sym e), ap (λ (y : Kind). over_by y s) i ∙ o ∙ ap (λ (n : ℕ). over_kind n h) (sym e))
-
-  pub made-empty : get_or h 0 0 ≡ 0 → s.kind ≡ Empty → Made
-  made-empty e i = made_by 0 Empty e i refl refl
-
-  pub made-pane : get_or h 0 0 ≡ 1 → s.kind ≡ Pane (get_or h 2 0) → Made
-  made-pane e i = made_by 1 (Pane (get_or h 2 0)) e i refl refl
-
-  pub made-group : get_or h 0 0 ≡ 2 → (view_slot s ≡ Node.tabs (bar_from (get_or h 1 0)) (get_or h 3 0) (take (get_or h 4 0) xs)) × (over_slot s ≡ ltb 16 (get_or h 4 0)) → Made
-  made-group e g = (g.0 ∙ ap (λ (n : ℕ). node_by n h xs ss ms) (sym e), g.1 ∙ ap (λ (n : ℕ). over_kind n h) (sym e))
-
-  pub made-split : (get_or h 0 0 ≡ 0 → ⊥) → (get_or h 0 0 ≡ 1 → ⊥) → (get_or h 0 0 ≡ 2 → ⊥)
-      → (view_slot s ≡ Node.split (axis_from (get_or h 1 0)) (map tile (take (get_or h 4 0) xs)) (take (get_or h 5 0) ss) (take (get_or h 6 0) ms)) × (over_slot s ≡ over_head h) → Made
-  made-split z o t g = (g.0 ∙ sym (split-of (get_or h 0 0) h xs ss ms z o t), g.1 ∙ sym (over-split (get_or h 0 0) h z o t))
-
-  -- a group and a split, from what their fields are
-  pub group-made : (b : TabBarPlacement) → s.kind ≡ Tabs b → b ≡ bar_from (get_or h 1 0) → s.active ≡ get_or h 3 0 → s.panes.at ≡ xs → s.panes.len ≡ get_or h 4 0
-      → (view_slot s ≡ Node.tabs (bar_from (get_or h 1 0)) (get_or h 3 0) (take (get_or h 4 0) xs)) × (over_slot s ≡ ltb 16 (get_or h 4 0))
-  group-made b i e a x n = (
-    ap (λ (y : Kind). node_of y s) i ∙ (λ z. Node.tabs (e z) (a z) (take (n z) (x z))),
-    ap (λ (y : Kind). over_by y s) i ∙ ap (ltb 16) n,
-  )
-
+  -- a split, from what its fields are
   pub split-made : (a : Axis) → s.kind ≡ Split a → a ≡ axis_from (get_or h 1 0) → s.children.at ≡ map tile xs → s.children.len ≡ get_or h 4 0
       → s.shares.at ≡ ss → s.shares.len ≡ get_or h 5 0 → s.minima.at ≡ ms → s.minima.len ≡ get_or h 6 0
       → (view_slot s ≡ Node.split (axis_from (get_or h 1 0)) (map tile (take (get_or h 4 0) xs)) (take (get_or h 5 0) ss) (take (get_or h 6 0) ms)) × (over_slot s ≡ over_head h)
@@ -179,49 +141,36 @@ module _ (hs xs : List (List ℕ)) (ss ms : List (List Float)) where
     pub within : i ≤ 64
     pub shown : Copied (nodes_from hs xs ss ms) i (map view_slot a)
     pub over : Copied (map over_of hs) i (map over_slot a)
-    pub heads : length hs ≡ 64
-    pub ids : length xs ≡ 64
-    pub shares : length ss ≡ 64
-    pub minima : length ms ≡ 64
 
-  pub packing-start : (s : Slot) → length hs ≡ 64 → length xs ≡ 64 → length ss ≡ 64 → length ms ≡ 64 → Packing 0 (replicate 64 s)
-  packing-start s lh lx ls lm =
-      record {
-        within = omega arith;
-        shown =
-            copied_none (nodes_from hs xs ss ms) (map view_slot (replicate 64 s))
-            (length-map (replicate 64 s) view_slot ∙ length-replicate 64 s ∙ sym (nodes-long hs xs ss ms lh lx ls lm));
-        over = mapped-none over_of hs 64 lh (map over_slot (replicate 64 s)) (length-map (replicate 64 s) over_slot ∙ length-replicate 64 s);
-        heads = lh;
-        ids = lx;
-        shares = ls;
-        minima = lm;
-      }
+  module _ (lh : length hs ≡ 64) (lx : length xs ≡ 64) (ls : length ss ≡ 64) (lm : length ms ≡ 64) where
+    pub packing-start : (s : Slot) → Packing 0 (replicate 64 s)
+    packing-start s =
+        record {
+          within = omega arith;
+          shown =
+              copied_none (nodes_from hs xs ss ms) (map view_slot (replicate 64 s))
+              (length-map (replicate 64 s) view_slot ∙ length-replicate 64 s ∙ sym (nodes-long hs xs ss ms lh lx ls lm));
+          over = mapped-none over_of hs 64 lh (map over_slot (replicate 64 s)) (length-map (replicate 64 s) over_slot ∙ length-replicate 64 s);
+        }
 
-  pub packing-more : (i : ℕ) (a : List Slot) (s : Slot) → Packing i a → i < 64 → Made s (get_or hs i []) (get_or xs i []) (get_or ss i []) (get_or ms i [])
-      → Packing (i + 1) (set a i s)
-  packing-more i a s P lt m =
-      record {
-        within = omega arith;
-        shown =
-            subst (λ (l : List Node). Copied (nodes_from hs xs ss ms) (i + 1) l) (sym (map-set view_slot a i s))
-            (copied_more (nodes_from hs xs ss ms) (map view_slot a) i empty (view_slot s) P.shown
-            (omega (arith, nodes-long hs xs ss ms P.heads P.ids P.shares P.minima))
-            (m.0 ∙ sym (nodes-at hs xs ss ms P.heads P.ids P.shares P.minima i)));
-        over =
-            subst (λ (l : List Bool). Copied (map over_of hs) (i + 1) l) (sym (map-set over_slot a i s))
-            (mapped-more over_of hs 64 P.heads (map over_slot a) i [] false (over_slot s) P.over lt m.1);
-        heads = P.heads;
-        ids = P.ids;
-        shares = P.shares;
-        minima = P.minima;
-      }
+    pub packing-more : (i : ℕ) (a : List Slot) (s : Slot) → Packing i a → i < 64
+        → (view_slot s ≡ get_or (nodes_from hs xs ss ms) i empty) × (over_slot s ≡ over_of (get_or hs i [])) → Packing (i + 1) (set a i s)
+    packing-more i a s P lt m =
+        record {
+          within = omega arith;
+          shown =
+              subst (λ (l : List Node). Copied (nodes_from hs xs ss ms) (i + 1) l) (sym (map-set view_slot a i s))
+              (copied_more (nodes_from hs xs ss ms) (map view_slot a) i empty (view_slot s) P.shown (omega (arith, nodes-long hs xs ss ms lh lx ls lm)) m.0);
+          over =
+              subst (λ (l : List Bool). Copied (map over_of hs) (i + 1) l) (sym (map-set over_slot a i s))
+              (mapped-more over_of hs 64 lh (map over_slot a) i [] false (over_slot s) P.over lt m.1);
+        }
 
-  pub packing-all : (i : ℕ) (a : List Slot) → Packing i a → 64 ≤ i → (map view_slot a ≡ nodes_from hs xs ss ms) × (any_of over_slot a ≡ any_of over_of hs)
-  packing-all i a P le = (
-    copied_all (nodes_from hs xs ss ms) (map view_slot a) i P.shown (omega (arith, nodes-long hs xs ss ms P.heads P.ids P.shares P.minima)),
-    any-alike over_slot over_of a hs (mapped-all over_of hs 64 P.heads (map over_slot a) i P.over le),
-  )
+    pub packing-all : (i : ℕ) (a : List Slot) → Packing i a → 64 ≤ i → (map view_slot a ≡ nodes_from hs xs ss ms) × (any_of over_slot a ≡ any_of over_of hs)
+    packing-all i a P le = (
+      copied_all (nodes_from hs xs ss ms) (map view_slot a) i P.shown (omega (arith, nodes-long hs xs ss ms lh lx ls lm)),
+      any-alike over_slot over_of a hs (mapped-all over_of hs 64 lh (map over_slot a) i P.over le),
+    )
 
 -- ---- the sweep, over the heads alone: whether a slot is empty stands in its head
 
@@ -324,11 +273,12 @@ module _ (hs₀ : List (List ℕ)) (cs : List Bool) (acts₀ : List (List ℕ)) 
           rest = λ l L. (l, L, refl);
         }
 
-    pub sweeping-more : (hs acts : List (List ℕ)) (m i : ℕ) → Sweeping hs acts m i → i < 64
+    -- one slot further: `lost` says whether it is listed, `next` is its head after it
+    sweeping_step : (hs acts : List (List ℕ)) (m i : ℕ) → Sweeping hs acts m i → i < 64
         → (lost : Bool) → lost ≡ not (get_or cs i false || eqb (get_or (get_or hs i []) 0 0) 0)
         → (acts' : List (List ℕ)) (m' : ℕ) → Noted lost (RemovedInvalidNode (tile i)) acts m acts' m'
         → (next : List ℕ) → next ≡ swept_head (get_or cs i false) (get_or hs i []) → Sweeping (set hs i next) acts' m' (i + 1)
-    sweeping-more hs acts m i S lt lost el acts' m' N next en =
+    sweeping_step hs acts m i S lt lost el acts' m' N next en =
         let same : get_or hs i [] ≡ get_or hs₀ i [] = sym (at_drop hs i []) ∙ ap (λ (l : List (List ℕ)). get_or l 0 []) S.left ∙ at_drop hs₀ i [] in
         let b : Bool = get_or cs i false || eqb (get_or (get_or hs₀ i []) 0 0) 0 in
         let eb : lost ≡ not b = el ∙ ap (λ (h : List ℕ). not (get_or cs i false || eqb (get_or h 0 0) 0)) same in
@@ -351,6 +301,19 @@ module _ (hs₀ : List (List ℕ)) (cs : List Bool) (acts₀ : List (List ℕ)) 
                 ∙ sym (λ z. listed_by i (drop-cons cs i false (omega arith) z) (drop-cons hs₀ i [] (omega arith) z) g.0) ∙ g.2,
           );
         }
+
+    pub sweeping-kept : (hs acts : List (List ℕ)) (m i : ℕ) → Sweeping hs acts m i → i < 64 → get_or cs i false ≡ true → Sweeping hs acts m (i + 1)
+    sweeping-kept hs acts m i S lt e =
+        subst (λ (gs : List (List ℕ)). Sweeping gs acts m (i + 1)) (set-get_or hs i [])
+        (sweeping_step hs acts m i S lt false (ap (λ (b : Bool). not (b || eqb (get_or (get_or hs i []) 0 0) 0)) (sym e)) acts m (record { most = omega arith; lists = λ l L. L })
+        (get_or hs i []) (ap (λ (b : Bool). swept_head b (get_or hs i [])) (sym e)))
+
+    pub sweeping-emptied : (hs acts : List (List ℕ)) (m i : ℕ) → Sweeping hs acts m i → i < 64 → get_or cs i false ≡ false
+        → (acts' : List (List ℕ)) (m' : ℕ) → Noted (not (eqb (get_or (get_or hs i []) 0 0) 0)) (RemovedInvalidNode (tile i)) acts m acts' m'
+        → Sweeping (set hs i (swept_head false [])) acts' m' (i + 1)
+    sweeping-emptied hs acts m i S lt e acts' m' N =
+        sweeping_step hs acts m i S lt (not (eqb (get_or (get_or hs i []) 0 0) 0)) (ap (λ (b : Bool). not (b || eqb (get_or (get_or hs i []) 0 0) 0)) (sym e)) acts' m' N
+        (swept_head false []) (ap (λ (b : Bool). swept_head b (get_or hs i [])) (sym e))
 
     pub sweeping-all : (hs acts : List (List ℕ)) (m i : ℕ) → Sweeping hs acts m i → 64 ≤ i → Sweeps hs₀ cs acts₀ n hs acts m
     sweeping-all hs acts m i S le =
@@ -392,17 +355,14 @@ codes-back : (l : List RepairAction) → map action_from (map code_of l) ≡ l
 codes-back [] = refl
 codes-back (a ∷ l) = λ z. code-back a z ∷ codes-back l z
 
-taken-actions : (n : ℕ) (acts : List (List ℕ)) → map action_of (take n (map listed_from acts)) ≡ map action_from (take n acts)
+taken-actions : (n : ℕ) (acts : List (List ℕ)) → take n (map action_from acts) ≡ map action_from (take n acts)
 taken-actions zero acts = refl
 taken-actions (suc n) [] = refl
 taken-actions (suc n) (a ∷ acts) = ap (λ (l : List RepairAction). action_from a ∷ l) (taken-actions n acts)
 
-pub reports : (acts : List (List ℕ)) (at : List Listed) (n i : ℕ) → Copied (map listed_from acts) i at → i ≤ n → n ≤ i → length acts ≡ 1300 → (l : List RepairAction) → Lists acts n l
-    → map action_of (take n at) ≡ l
-reports acts at n i C le ge whole l L =
-    let e : n ≡ i = omega arith in
-    ap (λ (k : ℕ). map action_of (take k at)) e ∙ ap (map action_of) C.front ∙ ap (λ (k : ℕ). map action_of (take k (map listed_from acts))) (sym e)
-    ∙ taken-actions n acts ∙ ap (map action_from) (L whole) ∙ codes-back l
+pub reports : (acts : List (List ℕ)) (at : List RepairAction) (n : ℕ) → Copied (map action_from acts) n at → length acts ≡ 1300 → (l : List RepairAction) → Lists acts n l
+    → take n at ≡ l
+reports acts at n C whole l L = C.front ∙ taken-actions n acts ∙ ap (map action_from) (L whole) ∙ codes-back l
 
 -- ---- the lowest empty slot
 
@@ -525,16 +485,16 @@ module _ (s : List Slot) (size : length s ≡ 64) where
   unpacking-none hs xs ss ms a b c d =
       record { size = size; within = omega arith; heads = mapped-none head_of s 64 size hs a; ids = mapped-none ids_of s 64 size xs b; shares = mapped-none shares_of s 64 size ss c; minima = mapped-none minima_of s 64 size ms d }
 
-  pub unpacking-more : (hs xs : List (List ℕ)) (ss ms : List (List Float)) (i : ℕ) (d : Slot) (h x : List ℕ) (y m : List Float) → Unpacking s i hs xs ss ms → i < 64
-      → h ≡ head_of (get_or s i d) → x ≡ ids_of (get_or s i d) → y ≡ shares_of (get_or s i d) → m ≡ minima_of (get_or s i d) → Unpacking s (i + 1) (set hs i h) (set xs i x) (set ss i y) (set ms i m)
-  unpacking-more hs xs ss ms i d h x y m U lt a b c e =
+  pub unpacking-more : (hs xs : List (List ℕ)) (ss ms : List (List Float)) (i : ℕ) (d : Slot) (hs' xs' : List (List ℕ)) (ss' ms' : List (List Float)) → Unpacking s i hs xs ss ms → i < 64
+      → Puts i (get_or s i d) hs xs ss ms hs' xs' ss' ms' → Unpacking s (i + 1) hs' xs' ss' ms'
+  unpacking-more hs xs ss ms i d hs' xs' ss' ms' U lt P =
       record {
         size = size;
         within = omega arith;
-        heads = mapped-more head_of s 64 size hs i d [] h U.heads lt a;
-        ids = mapped-more ids_of s 64 size xs i d [] x U.ids lt b;
-        shares = mapped-more shares_of s 64 size ss i d [] y U.shares lt c;
-        minima = mapped-more minima_of s 64 size ms i d [] m U.minima lt e;
+        heads = subst (Copied (map head_of s) (i + 1)) (sym P.heads) (mapped-more head_of s 64 size hs i d [] _ U.heads lt refl);
+        ids = subst (Copied (map ids_of s) (i + 1)) (sym P.ids) (mapped-more ids_of s 64 size xs i d [] _ U.ids lt refl);
+        shares = subst (Copied (map shares_of s) (i + 1)) (sym P.shares) (mapped-more shares_of s 64 size ss i d [] _ U.shares lt refl);
+        minima = subst (Copied (map minima_of s) (i + 1)) (sym P.minima) (mapped-more minima_of s 64 size ms i d [] _ U.minima lt refl);
       }
 
   pub unpacking-all : (hs xs : List (List ℕ)) (ss ms : List (List Float)) (i : ℕ) → Unpacking s i hs xs ss ms → 64 ≤ i → Unpacks s hs xs ss ms

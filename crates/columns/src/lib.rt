@@ -10,15 +10,9 @@ pub mod pack;
 pub mod slots;
 pub mod unpack;
 
-// One action of a repair. A struct, since an array of enums cannot be a field.
-#[derive(Clone, Copy)]
-pub struct Listed {
-    pub action: RepairAction,
-}
-
 // The actions of a repair, in order: the Rust's RepairReport. 1,300 places always suffice.
 #[derive(Clone, Copy)]
 pub struct Report {
-    pub at: [Listed; 1300],
+    pub at: [RepairAction; 1300],
     pub len: usize,
 }

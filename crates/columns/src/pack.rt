@@ -12,11 +12,9 @@ use rules::model::{Ids, Kind, Reals, Slot, TileId, Tiles};
 fn tiles_of(row: [u64; 16]) -> [TileId; 16]
     ensures { result ≡ map tile row }
 {
-    let none = TileId { slot: 0 };
-    let mut at = [none; 16];
-    for i in 0..16usize {
-        let t = TileId { slot: row[i] };
-        at[i] = t;
+    let mut at = [TileId { slot: 0 }; 16];
+    for i in 0..16 {
+        at[i] = TileId { slot: row[i] };
     }
     at
 }
@@ -25,17 +23,16 @@ fn tiles_of(row: [u64; 16]) -> [TileId; 16]
 pub fn bare_slot(kind: Kind) -> Slot
     ensures { result.kind ≡ kind }
 {
-    let none = TileId { slot: 0 };
     let panes = Ids {
-        at: [0u64; 16],
+        at: [0; 16],
         len: 0,
     };
     let children = Tiles {
-        at: [none; 16],
+        at: [TileId { slot: 0 }; 16],
         len: 0,
     };
     let reals = Reals {
-        at: [0.0f64; 16],
+        at: [0.0; 16],
         len: 0,
     };
     Slot {
@@ -53,12 +50,11 @@ fn group_slot(h: [u64; 8], row: [u64; 16]) -> Slot
 {
     let bar = modes::bar_of(h[1]);
     let mut s = bare_slot(Kind::Tabs(bar));
-    let panes = Ids {
+    s.active = h[3] as usize;
+    s.panes = Ids {
         at: row,
         len: h[4] as usize,
     };
-    s.active = h[3] as usize;
-    s.panes = panes;
     s
 }
 
@@ -68,21 +64,18 @@ fn split_slot(h: [u64; 8], row: [u64; 16], shares: [f64; 16], minima: [f64; 16])
     let axis = modes::axis_of(h[1]);
     let mut s = bare_slot(Kind::Split(axis));
     let at = tiles_of(row);
-    let children = Tiles {
+    s.children = Tiles {
         at,
         len: h[4] as usize,
     };
-    let given = Reals {
+    s.shares = Reals {
         at: shares,
         len: h[5] as usize,
     };
-    let least = Reals {
+    s.minima = Reals {
         at: minima,
         len: h[6] as usize,
     };
-    s.children = children;
-    s.shares = given;
-    s.minima = least;
     s
 }
 
@@ -90,17 +83,12 @@ fn split_slot(h: [u64; 8], row: [u64; 16], shares: [f64; 16], minima: [f64; 16])
 fn slot_of(h: [u64; 8], row: [u64; 16], shares: [f64; 16], minima: [f64; 16]) -> Slot
     ensures { (view_slot result ≡ node_from h row shares minima) × (over_slot result ≡ over_of h) }
 {
-    let kind = h[0];
-    if kind == 0 {
-        return bare_slot(Kind::Empty);
+    match h[0] {
+        0 => bare_slot(Kind::Empty),
+        1 => bare_slot(Kind::Pane(h[2])),
+        2 => group_slot(h, row),
+        _ => split_slot(h, row, shares, minima),
     }
-    if kind == 1 {
-        return bare_slot(Kind::Pane(h[2]));
-    }
-    if kind == 2 {
-        return group_slot(h, row);
-    }
-    split_slot(h, row, shares, minima)
 }
 
 // The slot that one row shows.
@@ -111,14 +99,10 @@ pub fn get(
     minima: &[[f64; 16]; 64],
     i: usize,
 ) -> Slot
-    requires { (length heads.now ≡ 64) × (length ids.now ≡ 64) × (length shares.now ≡ 64) × (length minima.now ≡ 64) × (i < 64) }
+    requires { i < 64 }
     ensures { (view_slot result ≡ get_or (nodes_from heads.now ids.now shares.now minima.now) i empty) × (over_slot result ≡ over_of (get_or heads.now i [])) }
 {
-    let h = heads[i];
-    let row = ids[i];
-    let parts = shares[i];
-    let least = minima[i];
-    slot_of(h, row, parts, least)
+    slot_of(heads[i], ids[i], shares[i], minima[i])
 }
 
 // A length of over 16 is handed on as it is: the slot then has a list that is not all there.
@@ -128,18 +112,11 @@ pub fn pack(
     shares: &[[f64; 16]; 64],
     minima: &[[f64; 16]; 64],
 ) -> [Slot; 64]
-    requires { (length heads.now ≡ 64) × (length ids.now ≡ 64) × (length shares.now ≡ 64) × (length minima.now ≡ 64) }
     ensures { (map view_slot result ≡ nodes_from heads.now ids.now shares.now minima.now) × (any_of over_slot result ≡ any_of over_of heads.now) }
 {
-    let none = bare_slot(Kind::Empty);
-    let mut a = [none; 64];
-    for i in 0..64usize {
-        let h = heads[i];
-        let row = ids[i];
-        let parts = shares[i];
-        let least = minima[i];
-        let s = slot_of(h, row, parts, least);
-        a[i] = s;
+    let mut slots = [bare_slot(Kind::Empty); 64];
+    for i in 0..64 {
+        slots[i] = get(heads, ids, shares, minima, i);
     }
-    a
+    slots
 }

@@ -17,11 +17,5 @@ pub fn full(row: [u64; 16])
 pub fn is_empty(s: Slot) -> bool
     ensures { result ≡ is_empty (view_slot s) }
 {
-    let k = s.kind;
-    match k {
-        Kind::Empty => true,
-        Kind::Pane(_) => false,
-        Kind::Tabs(_) => false,
-        Kind::Split(_) => false,
-    }
+    matches!(s.kind, Kind::Empty)
 }

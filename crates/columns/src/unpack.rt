@@ -1,5 +1,5 @@
 // From slots to columns, and the test of lists given too long.
-ghost use Rattle.std.specs.Prelude.{◌≡◌, false, ◌||◌, map, ◌<◌, ltb, length};
+ghost use Rattle.std.specs.Prelude.{◌≡◌, map, ◌<◌};
 ghost use Rattle.rules.specs.Lists.{any_of};
 ghost use Rattle.rules.specs.Tree.{bar_code, axis_code};
 ghost use Rattle.columns.specs.Pack.{Unpacks, Puts, over_head, slot_of, head_of, ids_of};
@@ -32,20 +32,15 @@ fn axis_code(a: Axis) -> u64
 fn head_of(s: Slot) -> [u64; 8]
     ensures { result ≡ head_of s }
 {
-    let k = s.kind;
-    let panes = s.panes;
-    let children = s.children;
-    let shares = s.shares;
-    let minima = s.minima;
-    match k {
-        Kind::Empty => [0u64; 8],
+    match s.kind {
+        Kind::Empty => [0; 8],
         Kind::Pane(p) => [1, 0, p, 0, 0, 0, 0, 0],
         Kind::Tabs(b) => [
             2,
             bar_code(b),
             0,
             s.active as u64,
-            panes.len as u64,
+            s.panes.len as u64,
             0,
             0,
             0,
@@ -55,9 +50,9 @@ fn head_of(s: Slot) -> [u64; 8]
             axis_code(a),
             0,
             0,
-            children.len as u64,
-            shares.len as u64,
-            minima.len as u64,
+            s.children.len as u64,
+            s.shares.len as u64,
+            s.minima.len as u64,
             0,
         ],
     }
@@ -67,10 +62,9 @@ fn head_of(s: Slot) -> [u64; 8]
 fn numbers_of(at: [TileId; 16]) -> [u64; 16]
     ensures { result ≡ map slot_of at }
 {
-    let mut row = [0u64; 16];
-    for i in 0..16usize {
-        let t = at[i];
-        row[i] = t.slot;
+    let mut row = [0; 16];
+    for i in 0..16 {
+        row[i] = at[i].slot;
     }
     row
 }
@@ -79,16 +73,9 @@ fn numbers_of(at: [TileId; 16]) -> [u64; 16]
 fn ids_row(s: Slot) -> [u64; 16]
     ensures { result ≡ ids_of s }
 {
-    let k = s.kind;
-    let panes = s.panes;
-    let at = panes.at;
-    let children = s.children;
-    let tiles = children.at;
-    match k {
-        Kind::Empty => at,
-        Kind::Pane(_) => at,
-        Kind::Tabs(_) => at,
-        Kind::Split(_) => numbers_of(tiles),
+    match s.kind {
+        Kind::Empty | Kind::Pane(_) | Kind::Tabs(_) => s.panes.at,
+        Kind::Split(_) => numbers_of(s.children.at),
     }
 }
 
@@ -101,19 +88,15 @@ pub fn put(
     i: usize,
     s: Slot,
 )
-    requires { (length heads.old ≡ 64) × (length ids.old ≡ 64) × (length shares.old ≡ 64) × (length minima.old ≡ 64) × (i < 64) }
+    requires { i < 64 }
     ensures { Puts i s heads.old ids.old shares.old minima.old heads.new ids.new shares.new minima.new }
 {
-    let h = head_of(s);
-    heads[i] = h;
-    let row = ids_row(s);
-    ids[i] = row;
-    let some = s.shares;
-    let parts = some.at;
+    let parts = s.shares.at;
+    let least = s.minima.at;
+    heads[i] = head_of(s);
+    ids[i] = ids_row(s);
     shares[i] = parts;
-    let least = s.minima;
-    let sizes = least.at;
-    minima[i] = sizes;
+    minima[i] = least;
 }
 
 // All four columns in one pass.
@@ -124,23 +107,10 @@ pub fn unpack(
     shares: &mut [[f64; 16]; 64],
     minima: &mut [[f64; 16]; 64],
 )
-    requires { (length heads.old ≡ 64) × (length ids.old ≡ 64) × (length shares.old ≡ 64) × (length minima.old ≡ 64) }
     ensures { Unpacks slots heads.new ids.new shares.new minima.new }
 {
-    let mut i = 0usize;
-    while i < 64 {
-        let s = slots[i];
-        let h = head_of(s);
-        heads[i] = h;
-        let row = ids_row(s);
-        ids[i] = row;
-        let some = s.shares;
-        let parts = some.at;
-        shares[i] = parts;
-        let least = s.minima;
-        let sizes = least.at;
-        minima[i] = sizes;
-        i += 1;
+    for i in 0..64 {
+        put(heads, ids, shares, minima, i, slots[i]);
     }
 }
 
@@ -148,34 +118,12 @@ pub fn unpack(
 fn is_over(h: [u64; 8]) -> bool
     ensures { result ≡ over_head h }
 {
-    any_over(h[4] as usize, h[5] as usize, h[6] as usize)
+    16 < h[4] || 16 < h[5] || 16 < h[6]
 }
 
 // Whether a list that a kind uses was given longer than 16, by the heads.
 pub fn heads_over(heads: &[[u64; 8]; 64]) -> bool
-    requires { length heads.now ≡ 64 }
     ensures { result ≡ any_of over_head heads.now }
 {
-    let mut i = 0usize;
-    while i < 64 {
-        let h = heads[i];
-        if is_over(h) {
-            return true;
-        }
-        i += 1;
-    }
-    false
-}
-
-// Whether a length of three is over 16.
-fn any_over(a: usize, b: usize, c: usize) -> bool
-    ensures { result ≡ (ltb 16 a || ltb 16 b || ltb 16 c) }
-{
-    if 16 < a {
-        return true;
-    }
-    if 16 < b {
-        return true;
-    }
-    16 < c
+    heads.iter().any(|h| is_over(*h))
 }

@@ -1,31 +1,32 @@
 // The parts of normalize_split that call nothing back: bad lists noted, a child that came back placed, and the split stored again.
-ghost use Rattle.std.specs.Prelude.{[], ◌≡◌, ℕ, ◌+◌, ◌≤◌, ◌<◌, length, get_or, set};
+ghost use Rattle.std.specs.Prelude.{[], ◌≡◌, ℕ, ◌+◌, ◌≤◌, ◌<◌, get_or, set, is_none, unwrap_or};
 ghost use Rattle.columns.specs.Columns.{Slim};
 ghost use Rattle.melting.specs.Splits.{BadNoted, kids_in, Lent, PlacesIn, ClosesIn, empty_head, Stored};
 
 use melting::{Placing, Tally, rows};
 use noting::actions;
-use rules::model::Reals;
+use rules::model::{Reals, RepairAction, TileId};
 use sifting::{Counts, Kept, Kids, Walk};
 use util::{minima as constraints, shares as util_shares};
 
 // The bad lists of a split: k as they were given, l as they were mended.
 pub fn split_noted(acts: &mut [[u64; 3]], n: usize, id: u64, k: Kids, l: Kids) -> usize
-    requires { (n + 2 ≤ 1300) × (k.children.len ≤ 16) × (k.shares.len ≤ 16) × (k.minima.len ≤ 16) × (l.children.len ≤ 16) × (l.shares.len ≤ 16) × (l.minima.len ≤ 16) }
+    requires listing { n + 2 ≤ 1300 }
+    requires given_shares { k.shares.len ≤ 16 }
+    requires given_minima { k.minima.len ≤ 16 }
+    requires shares { l.shares.len ≤ 16 }
+    requires minima { l.minima.len ≤ 16 }
     ensures { BadNoted id k l acts.old n acts.new result }
 {
-    let old_minima = k.minima;
-    let new_minima = l.minima;
-    let compact = constraints::compact_constraints(new_minima);
-    let fine = util_shares::eq_reals(compact, old_minima);
-    let m = actions::note_if(acts, n, !fine, actions::REPAIRED_CONSTRAINTS, id, 0);
-    let old_shares = k.shares;
-    let new_shares = l.shares;
-    let same = util_shares::eq_reals(new_shares, old_shares);
-    actions::note_if(acts, m, !same, actions::REPAIRED_SHARES, id, 0)
+    let tile = TileId { slot: id };
+    let compact = constraints::compact_constraints(l.minima);
+    let fine = util_shares::eq_reals(compact, k.minima);
+    let m = actions::note_if(acts, n, !fine, RepairAction::RepairedConstraints(tile));
+    let same = util_shares::eq_reals(l.shares, k.shares);
+    actions::note_if(acts, m, !same, RepairAction::RepairedShares(tile))
 }
 
-// A child that is kept: melted in, or placed as it is.
+// A child that is kept: melted in, or placed as it is; none, where there is no room.
 fn place_at(
     heads: &mut [[u64; 8]; 64],
     ids: &[[u64; 16]; 64],
@@ -41,37 +42,29 @@ fn place_at(
     share: f64,
     minimum: f64,
     id: u64,
-) -> Placing
-    requires { (length heads.old ≡ 64) × (length ids.now ≡ 64) × (length shares.now ≡ 64) × (length minima.now ≡ 64) × ((i : ℕ) → Slim (get_or heads.old i [])) × Lent (kids_in cs.old ss.old ms.old t.len t.moved) × (c.acts < 1300) }
-    ensures { Lent (kids_in cs.new ss.new ms.new result.tally.len result.tally.moved) × PlacesIn heads.old ids.now shares.now minima.now acts.old c mode (kids_in cs.old ss.old ms.old t.len t.moved) share minimum (Kept.At id) heads.new acts.new result.counts (kids_in cs.new ss.new ms.new result.tally.len result.tally.moved) result.wide }
+) -> Option<Placing>
+    requires slim { (i : ℕ) → Slim (get_or heads.old i []) }
+    requires tally { t.len ≤ 16 }
+    requires listing { c.acts < 1300 }
+    ensures { let p = unwrap_or result (record { tally = t; counts = c }) in Lent (kids_in cs.new ss.new ms.new p.tally.len p.tally.moved) × PlacesIn heads.old ids.now shares.now minima.now acts.old c mode (kids_in cs.old ss.old ms.old t.len t.moved) share minimum (Kept.At id) heads.new acts.new p.counts (kids_in cs.new ss.new ms.new p.tally.len p.tally.moved) (is_none result) }
 {
-    if 64 <= id {
-        return rows::place_one(cs, ss, ms, t, c, id, share, minimum);
+    if id < 64 && rows::is_meltable(heads[id as usize], mode, minimum) {
+        let i = id as usize;
+        let given = rows::load(heads, ids, shares, minima, i);
+        let tally = rows::melt_kids(cs, ss, ms, t, share, given)?;
+        let melted = RepairAction::CollapsedSplit(TileId { slot: id });
+        let n = actions::note(acts, c.acts, melted);
+        heads[i] = [0; 8];
+        return Some(Placing {
+            tally,
+            counts: Counts { acts: n, ..c },
+        });
     }
-    let i = id as usize;
-    let h = heads[i];
-    if !rows::is_meltable(h, mode, minimum) {
-        return rows::place_one(cs, ss, ms, t, c, id, share, minimum);
-    }
-    let given = rows::load(heads, ids, shares, minima, i);
-    let p = rows::melt_kids(cs, ss, ms, t, c, share, given);
-    if p.wide {
-        return p;
-    }
-    let n = actions::note(acts, c.acts, actions::COLLAPSED_SPLIT, id, 0);
-    heads[i] = [0u64; 8];
-    let tally = p.tally;
-    Placing {
-        tally,
-        counts: Counts {
-            seen: c.seen,
-            acts: n,
-        },
-        wide: false,
-    }
+    let tally = rows::place_one(cs, ss, ms, t, id, share, minimum)?;
+    Some(Placing { tally, counts: c })
 }
 
-// A child's repair came back: dropped, melted in, or placed as it is.
+// A child's repair came back: dropped, melted in, or placed as it is; none, where there is no room.
 pub fn place(
     heads: &mut [[u64; 8]; 64],
     ids: &[[u64; 16]; 64],
@@ -87,37 +80,31 @@ pub fn place(
     share: f64,
     minimum: f64,
     kept: Kept,
-) -> Placing
-    requires { (length heads.old ≡ 64) × (length ids.now ≡ 64) × (length shares.now ≡ 64) × (length minima.now ≡ 64) × ((i : ℕ) → Slim (get_or heads.old i [])) × Lent (kids_in cs.old ss.old ms.old t.len t.moved) × (c.acts < 1300) × (kept ≡ Kept.Wide → ⊥) }
-    ensures { Lent (kids_in cs.new ss.new ms.new result.tally.len result.tally.moved) × PlacesIn heads.old ids.now shares.now minima.now acts.old c mode (kids_in cs.old ss.old ms.old t.len t.moved) share minimum kept heads.new acts.new result.counts (kids_in cs.new ss.new ms.new result.tally.len result.tally.moved) result.wide }
+) -> Option<Placing>
+    requires slim { (i : ℕ) → Slim (get_or heads.old i []) }
+    requires tally { t.len ≤ 16 }
+    requires listing { c.acts < 1300 }
+    requires narrow { kept ≡ Kept.Wide → ⊥ }
+    ensures { let p = unwrap_or result (record { tally = t; counts = c }) in Lent (kids_in cs.new ss.new ms.new p.tally.len p.tally.moved) × PlacesIn heads.old ids.now shares.now minima.now acts.old c mode (kids_in cs.old ss.old ms.old t.len t.moved) share minimum kept heads.new acts.new p.counts (kids_in cs.new ss.new ms.new p.tally.len p.tally.moved) (is_none result) }
 {
     match kept {
         Kept::At(id) => place_at(
             heads, ids, shares, minima, acts, cs, ss, ms, c, mode, t, share, minimum, id,
         ),
-        Kept::Gone => Placing {
-            tally: Tally {
-                len: t.len,
-                moved: true,
-            },
+        Kept::Gone => Some(Placing {
+            tally: Tally { moved: true, ..t },
             counts: c,
-            wide: false,
-        },
-        Kept::Wide => Placing {
-            tally: t,
-            counts: c,
-            wide: true,
-        },
+        }),
+        Kept::Wide => None,
     }
 }
 
 // A slot emptied.
 fn clear(heads: &mut [[u64; 8]; 64], id: u64)
-    requires { (length heads.old ≡ 64) × (id < 64) }
+    requires { id < 64 }
     ensures { heads.new ≡ set heads.old id empty_head }
 {
-    let i = id as usize;
-    heads[i] = [0u64; 8];
+    heads[id as usize] = [0; 8];
 }
 
 // A split's lists put into its slot.
@@ -133,17 +120,16 @@ fn store(
     ss: Reals,
     ms: Reals,
 )
-    requires { (length heads.old ≡ 64) × (length ids.old ≡ 64) × (length shares.old ≡ 64) × (length minima.old ≡ 64) × (id < 64) }
+    requires { id < 64 }
     ensures { Stored id mode cs.now n ss.at ss.len ms.at ms.len heads.old ids.old shares.old minima.old heads.new ids.new shares.new minima.new }
 {
     let i = id as usize;
     heads[i] = [3, mode, 0, 0, n as u64, ss.len as u64, ms.len as u64, 0];
-    let xs = *cs;
-    ids[i] = xs;
-    let ys = ss.at;
-    shares[i] = ys;
-    let zs = ms.at;
-    minima[i] = zs;
+    ids[i] = *cs;
+    let parts = ss.at;
+    shares[i] = parts;
+    let least = ms.at;
+    minima[i] = least;
 }
 
 // Two children or more: the split stays, with its shares repaired.
@@ -162,21 +148,19 @@ fn keep_split(
     old: Reals,
     t: Tally,
 ) -> Walk
-    requires { (length heads.old ≡ 64) × (length ids.old ≡ 64) × (length shares.old ≡ 64) × (length minima.old ≡ 64) × (id < 64) × Lent (kids_in cs.now ss.now ms.now t.len t.moved) × (old.len ≤ 16) × (c.acts < 1300) × (1 < t.len) }
+    requires inside { id < 64 }
+    requires tally { t.len ≤ 16 }
+    requires given { old.len ≤ 16 }
+    requires listing { c.acts < 1300 }
+    requires many { 1 < t.len }
     ensures { ClosesIn heads.old ids.old shares.old minima.old acts.old c id mode old (kids_in cs.now ss.now ms.now t.len t.moved) heads.new ids.new shares.new minima.new acts.new result.counts result.kept }
 {
     let n = t.len;
     let given = Reals { at: *ss, len: n };
     let repaired = util_shares::repaired_shares(n, given);
     let same = util_shares::eq_reals(repaired, old);
-    let listed = actions::note_if(
-        acts,
-        c.acts,
-        t.moved | !same,
-        actions::REPAIRED_SHARES,
-        id,
-        0,
-    );
+    let mended = RepairAction::RepairedShares(TileId { slot: id });
+    let listed = actions::note_if(acts, c.acts, t.moved | !same, mended);
     let whole = Reals { at: *ms, len: n };
     let compact = constraints::compact_constraints(whole);
     store(
@@ -184,10 +168,7 @@ fn keep_split(
     );
     Walk {
         kept: Kept::At(id),
-        counts: Counts {
-            seen: c.seen,
-            acts: listed,
-        },
+        counts: Counts { acts: listed, ..c },
     }
 }
 
@@ -207,30 +188,28 @@ pub fn split_done(
     old: Reals,
     t: Tally,
 ) -> Walk
-    requires { (length heads.old ≡ 64) × (length ids.old ≡ 64) × (length shares.old ≡ 64) × (length minima.old ≡ 64) × (id < 64) × Lent (kids_in cs.now ss.now ms.now t.len t.moved) × (old.len ≤ 16) × (c.acts < 1300) }
+    requires inside { id < 64 }
+    requires tally { t.len ≤ 16 }
+    requires given { old.len ≤ 16 }
+    requires listing { c.acts < 1300 }
     ensures { ClosesIn heads.old ids.old shares.old minima.old acts.old c id mode old (kids_in cs.now ss.now ms.now t.len t.moved) heads.new ids.new shares.new minima.new acts.new result.counts result.kept }
 {
+    let tile = TileId { slot: id };
     if t.len == 0 {
-        let n = actions::note(acts, c.acts, actions::REMOVED_INVALID_NODE, id, 0);
+        let n = actions::note(acts, c.acts, RepairAction::RemovedInvalidNode(tile));
         clear(heads, id);
         return Walk {
             kept: Kept::Gone,
-            counts: Counts {
-                seen: c.seen,
-                acts: n,
-            },
+            counts: Counts { acts: n, ..c },
         };
     }
     if t.len == 1 {
         let first = cs[0];
-        let n = actions::note(acts, c.acts, actions::COLLAPSED_SPLIT, id, 0);
+        let n = actions::note(acts, c.acts, RepairAction::CollapsedSplit(tile));
         clear(heads, id);
         return Walk {
             kept: Kept::At(first),
-            counts: Counts {
-                seen: c.seen,
-                acts: n,
-            },
+            counts: Counts { acts: n, ..c },
         };
     }
     keep_split(

@@ -245,23 +245,25 @@ mends-count k l m =
 never : {A : Type 0} → true ≡ false → A
 never e = absurd (let z : ◌≡◌ {A = ℕ} 0 1 = cc in omega arith)
 
-module _ (es : List Entry) (b : Bool) (k : Kids) (c : Counts) where
-  pub fits-over : Lent k → 16 < k.children.len + length es → Fits es b k k c c true
+-- three arrays of 16 places, of which n are in use
+pub lent-in : (cs : List ℕ) (ss ms : List Float) (n : ℕ) (b : Bool) → length cs ≡ 16 → length ss ≡ 16 → length ms ≡ 16 → n ≤ 16 → Lent (kids_in cs ss ms n b)
+lent-in cs ss ms n b x y z h = record { even = record { shares = refl; minima = refl; few = h }; long = record { children = x; shares = y; minima = z } }
+
+module _ (es : List Entry) (b : Bool) (k : Kids) where
+  pub fits-over : Lent k → 16 < k.children.len + length es → Fits es b k k true
   fits-over L h =
       record {
         lent = L;
-        counts = refl;
         list = λ e. never e;
         moved = λ e. never e;
         still = λ e. refl;
         over = λ e. omega (arith, length-append (entries_of k) es, even-count k L.even L.long);
       }
 
-  pub fits-grown : (l : Kids) → Grown es k l → l.moved ≡ b → Fits es b k l c c false
+  pub fits-grown : (l : Kids) → Grown es k l → l.moved ≡ b → Fits es b k l false
   fits-grown l g m =
       record {
         lent = g.lent;
-        counts = refl;
         list = λ e. g.list;
         moved = λ e. m;
         still = λ e. never (sym e);
@@ -269,17 +271,17 @@ module _ (es : List Entry) (b : Bool) (k : Kids) (c : Counts) where
       }
 
 -- a split melted in: the flag goes up
-module _ (cs : List ℕ) (ss ms : List Float) (n : ℕ) (flag : Bool) (given sub : Kids) (c : Counts) (share : Float) (L : Lent (kids_in cs ss ms n flag)) (m : Mends given sub) where
-  pub melt-over : 16 < n + sub.children.len → Fits (map (scaled share) (mended_of given)) true (kids_in cs ss ms n flag) (kids_in cs ss ms n flag) c c true
+module _ (cs : List ℕ) (ss ms : List Float) (n : ℕ) (flag : Bool) (given sub : Kids) (share : Float) (L : Lent (kids_in cs ss ms n flag)) (m : Mends given sub) where
+  pub melt-over : 16 < n + sub.children.len → Fits (map (scaled share) (mended_of given)) true (kids_in cs ss ms n flag) (kids_in cs ss ms n flag) true
   melt-over h =
-      fits-over (map (scaled share) (mended_of given)) true (kids_in cs ss ms n flag) c L (omega (arith, length-map (mended_of given) (scaled share), mends-count given sub m))
+      fits-over (map (scaled share) (mended_of given)) true (kids_in cs ss ms n flag) L (omega (arith, length-map (mended_of given) (scaled share), mends-count given sub m))
 
   pub melt-fits : (cs' : List ℕ) (ss' ms' : List Float) → Grown (map (scaled share) (entries_of sub)) (kids_in cs ss ms n true) (kids_in cs' ss' ms' (n + sub.children.len) true)
-      → Fits (map (scaled share) (mended_of given)) true (kids_in cs ss ms n flag) (kids_in cs' ss' ms' (n + sub.children.len) true) c c false
+      → Fits (map (scaled share) (mended_of given)) true (kids_in cs ss ms n flag) (kids_in cs' ss' ms' (n + sub.children.len) true) false
   melt-fits cs' ss' ms' g =
       let l = kids_in cs' ss' ms' (n + sub.children.len) true in
       let e = mends-entries given sub m in
-      fits-grown (map (scaled share) (mended_of given)) true (kids_in cs ss ms n flag) c l
+      fits-grown (map (scaled share) (mended_of given)) true (kids_in cs ss ms n flag) l
       (record {
         lent = g.lent;
         list = g.list ∙ ap (λ (es : List Entry). zipped (take n cs) (take n ss) (take n ms) ++ map (scaled share) es) e;
@@ -306,10 +308,6 @@ bad-noted id k l b d acts acts₁ acts₂ n n₁ n₂ p q x y =
 
 abbrev pub counted : Counts → ℕ → Counts
 counted c n = record { seen = c.seen; acts = n }
-
--- other counts
-abbrev pub recount : Cols → Counts → Cols
-recount C d = cols C.heads C.ids C.shares C.minima C.claimed C.seen C.acts d
 
 -- the slot emptied, and other actions
 abbrev pub emptied : Cols → ℕ → List (List ℕ) → ℕ → Cols
@@ -412,11 +410,10 @@ module _ (C : Cols) (Z : Sized C) (mode : ℕ) (e : Entry) (k : Kids) where
       rule-is : (b : Bool) → melts (axis_from mode) minimum (row_node C Z id) ≡ b → place (axis_from mode) e (some (tile id)) (run (entries_of k) k.moved w) w ≡ placed_by b
       rule-is b y = ap placed_by ((λ i. melts (axis_from mode) (pm i) (node-is C Z w S id i)) ∙ y)
 
-    pub placed_one : (l : Kids) (d : Counts) (wide : Bool) → Fits (entry (tile id) share minimum ∷ []) k.moved k l C.counts d wide → melts (axis_from mode) minimum (row_node C Z id) ≡ false
-        → Placed C (recount C d) mode e (At id) k l wide
-    placed_one l d wide F cannot =
-        subst (λ (n : Counts). Placed C (recount C n) mode e (At id) k l wide) (sym F.counts)
-        (record {
+    pub placed_one : (l : Kids) (wide : Bool) → Fits (entry (tile id) share minimum ∷ []) k.moved k l wide → melts (axis_from mode) minimum (row_node C Z id) ≡ false
+        → Placed C C mode e (At id) k l wide
+    placed_one l wide F cannot =
+        record {
           sized = Z;
           flags = refl;
           seen = refl;
@@ -431,10 +428,10 @@ module _ (C : Cols) (Z : Sized C) (mode : ℕ) (e : Entry) (k : Kids) where
           over = λ f w S.
               subst (λ (t : Run). 16 < length t.list) (sym (rule-is w S false cannot))
               (subst (λ (l : List Entry). 16 < length l) (sym (λ i. entries_of k ++ entry (tile id) (ps i) (pm i) ∷ [])) (F.over f));
-        })
+        }
 
     module _ (given : Kids) (L : Loaded (get_or C.heads id []) (get_or C.ids id []) (get_or C.shares id []) (get_or C.minima id []) given)
-        (l : Kids) (d : Counts) (wide : Bool) (F : Fits (map (scaled share) (mended_of given)) true k l C.counts d wide) (can : melts (axis_from mode) minimum (row_node C Z id) ≡ true) where
+        (l : Kids) (wide : Bool) (F : Fits (map (scaled share) (mended_of given)) true k l wide) (can : melts (axis_from mode) minimum (row_node C Z id) ≡ true) where
       melted-is : (w : Work) → Shows C w → entries_of k ++ melted e.share (get_or w.state.nodes id empty) ≡ entries_of k ++ map (scaled share) (mended_of given)
       melted-is w S =
           let h = get_or C.heads id [] in
@@ -445,10 +442,9 @@ module _ (C : Cols) (Z : Sized C) (mode : ℕ) (e : Entry) (k : Kids) where
           node-is C Z w S id ∙ only-split (axis_from mode) minimum (get_or h 0 0) h xs ss ms can in
           (λ i. entries_of k ++ melted (ps i) (n i)) ∙ (λ i. entries_of k ++ map (scaled share) (loaded-entries h xs ss ms given L i))
 
-      pub placed-over : wide ≡ true → Placed C (recount C d) mode e (At id) k l wide
+      pub placed-over : wide ≡ true → Placed C C mode e (At id) k l wide
       placed-over t =
-          subst (λ (n : Counts). Placed C (recount C n) mode e (At id) k l wide) (sym F.counts)
-          (record {
+          record {
             sized = Z;
             flags = refl;
             seen = refl;
@@ -458,7 +454,7 @@ module _ (C : Cols) (Z : Sized C) (mode : ℕ) (e : Entry) (k : Kids) where
             over = λ f w S.
                 subst (λ (u : Run). 16 < length u.list) (sym (rule-is w S true can))
                 (subst (λ (l : List Entry). 16 < length l) (sym (melted-is w S)) (F.over f));
-          })
+          }
 
       pub placed-melted : wide ≡ false → C.counts.acts + 1 + 19 * free C.claimed ≤ 1216 → (acts : List (List ℕ)) (n : ℕ)
           → Noted true (CollapsedSplit (tile id)) C.acts C.counts.acts acts n

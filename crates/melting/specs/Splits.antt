@@ -76,9 +76,8 @@ mended_of k =
     entries cs (repaired_shares (length cs) (reals k.shares)) (aligned_constraints (length cs) (reals k.minima))
 
 -- the children es behind those of k, if they are not too many; else all is as it was
-pub record Fits (es : List Entry) (flag : Bool) (k l : Kids) (c d : Counts) (wide : Bool) : Type 0 where
+pub record Fits (es : List Entry) (flag : Bool) (k l : Kids) (wide : Bool) : Type 0 where
   pub lent : Lent l
-  pub counts : d ≡ c
   pub list : wide ≡ false → entries_of l ≡ entries_of k ++ es
   pub moved : wide ≡ false → l.moved ≡ flag
   pub still : wide ≡ true → l ≡ k

@@ -17,5 +17,4 @@ pub struct Tally {
 pub struct Placing {
     pub tally: Tally,
     pub counts: Counts,
-    pub wide: bool,
 }

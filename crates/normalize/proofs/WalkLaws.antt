@@ -422,6 +422,11 @@ module _ (rows : Kids) (E : Even rows) (long : length (ids rows.children) ≡ ro
             let (x, y) = K.right r.left U in
             subst (Answers kept (Shows F) w.state) (sym z) (kept-answers kept (Shows F) w.state (split_done (tile id) a (reals given) (run (entries_of k) k.moved r.left)) K.narrow x y)
 
+wide-is : (k : Kept) → is_wide k ≡ true → k ≡ Wide
+wide-is (At i) e = cc
+wide-is Gone e = cc
+wide-is Wide e = refl
+
 -- ---- the same, with all that the loop's place in the code tells in one record
 
 pub record Ctx (rows : Kids) (C₀ D : Cols) (id mode : ℕ) (given : Reals) : Type 0 where
@@ -471,9 +476,10 @@ module _ {rows : Kids} {C₀ D : Cols} {id mode : ℕ} {given : Reals} (X : Ctx 
       child-walked : Walked C E₁ kept (get_or (ids rows.children) j 0)
       child-walked = subst (Walked C E₁ kept) at V'
 
-      pub too_wide : is_wide kept ≡ true → Walked C₀ E₁ Wide id
-      too_wide =
-          child-wide rows X.opens.even X.long X.long_shares X.long-minima C₀ D id mode given X.sized X.inside X.open-yet X.opens C k j G lt E₁ kept child-walked
+      pub too_wide : is_wide kept ≡ true → Walked C₀ E₁ kept id
+      too_wide e =
+          subst (λ (t : Kept). Walked C₀ E₁ t id) (sym (wide-is kept e))
+          (child-wide rows X.opens.even X.long X.long_shares X.long-minima C₀ D id mode given X.sized X.inside X.open-yet X.opens C k j G lt E₁ kept child-walked e)
 
       pub room-placed : E₁.counts.acts + reserve kept + 19 * free E₁.claimed ≤ 1216
       room-placed = omega (arith, V'.listing, room_for lt)

@@ -16,11 +16,7 @@ use sifting::{Counts, Kept, Kids, Walk, leaves};
 fn is_wide(k: Kept) -> bool
     ensures { result ≡ is_wide k }
 {
-    match k {
-        Kept::At(_) => false,
-        Kept::Gone => false,
-        Kept::Wide => true,
-    }
+    matches!(k, Kept::Wide)
 }
 
 // The start of normalize_split: the slot is claimed, the lists are read and mended, and bad ones are noted.
@@ -34,25 +30,23 @@ fn open_split(
     c: Counts,
     id: u64,
 ) -> Opened
-    requires { (id < 64) × (length heads.now ≡ 64) × (length ids.now ≡ 64) × (length shares.now ≡ 64) × (length minima.now ≡ 64) × (length claimed.old ≡ 64) × Slim (get_or heads.now id []) × (get_or claimed.old id Bool.false ≡ Bool.false) × (c.acts + 19 * free claimed.old ≤ 1216) × (get_or (get_or heads.now id []) 0 0 ≡ 0 → ⊥) × (get_or (get_or heads.now id []) 0 0 ≡ 1 → ⊥) × (get_or (get_or heads.now id []) 0 0 ≡ 2 → ⊥) }
+    requires inside { id < 64 }
+    requires slim { Slim (get_or heads.now id []) }
+    requires unclaimed { get_or claimed.old id Bool.false ≡ Bool.false }
+    requires listing { c.acts + 19 * free claimed.old ≤ 1216 }
+    requires split { 2 < get_or (get_or heads.now id []) 0 0 }
     ensures { OpensIn heads.now ids.now shares.now minima.now claimed.old acts.old c id claimed.new acts.new result }
 {
     let i = id as usize;
     claimed[i] = true;
-    let h = heads[i];
-    let mode = h[1];
     let row = rows::load(heads, ids, shares, minima, i);
     let rows = rows::mended(row);
     let n = splits::split_noted(acts, c.acts, id, row, rows);
-    let given = row.shares;
     Opened {
-        mode,
-        given,
+        mode: heads[i][1],
+        given: row.shares,
         rows,
-        counts: Counts {
-            seen: c.seen,
-            acts: n,
-        },
+        counts: Counts { acts: n, ..c },
     }
 }
 
@@ -75,7 +69,8 @@ pub fn normalize_node(
     c: Counts,
     id: u64,
 ) -> Walk
-    requires { Sized (cols heads.old ids.old shares.old minima.old claimed.old seen.old acts.old c) × (c.acts + 19 * free claimed.old ≤ 1216) }
+    requires sized { Sized (cols heads.old ids.old shares.old minima.old claimed.old seen.old acts.old c) }
+    requires listing { c.acts + 19 * free claimed.old ≤ 1216 }
     ensures { Walked (cols heads.old ids.old shares.old minima.old claimed.old seen.old acts.old c) (cols heads.new ids.new shares.new minima.new claimed.new seen.new acts.new result.counts) result.kept id }
 {
     if 64 <= id {
@@ -85,18 +80,12 @@ pub fn normalize_node(
     if claimed[i] {
         return leaves::gone(acts, c, id);
     }
-    let h = heads[i];
-    let kind = h[0];
-    if kind == 0 {
-        return leaves::gone(acts, c, id);
+    match heads[i][0] {
+        0 => leaves::gone(acts, c, id),
+        1 => leaves::pane_step(heads, claimed, seen, acts, c, id),
+        2 => leaves::group_step(heads, ids, claimed, seen, acts, c, id),
+        _ => normalize_split(heads, ids, shares, minima, claimed, seen, acts, c, id),
     }
-    if kind == 1 {
-        return leaves::pane_step(heads, claimed, seen, acts, c, id);
-    }
-    if kind == 2 {
-        return leaves::group_step(heads, ids, claimed, seen, acts, c, id);
-    }
-    normalize_split(heads, ids, shares, minima, claimed, seen, acts, c, id)
 }
 
 // normalize_split, of a split whose slot is not claimed
@@ -112,60 +101,51 @@ fn normalize_split(
     c: Counts,
     id: u64,
 ) -> Walk
-    requires { Sized (cols heads.old ids.old shares.old minima.old claimed.old seen.old acts.old c) × (c.acts + 19 * free claimed.old ≤ 1216) × (id < 64) × (get_or claimed.old id Bool.false ≡ Bool.false) × (get_or (get_or heads.old id []) 0 0 ≡ 0 → ⊥) × (get_or (get_or heads.old id []) 0 0 ≡ 1 → ⊥) × (get_or (get_or heads.old id []) 0 0 ≡ 2 → ⊥) }
+    requires sized { Sized (cols heads.old ids.old shares.old minima.old claimed.old seen.old acts.old c) }
+    requires listing { c.acts + 19 * free claimed.old ≤ 1216 }
+    requires inside { id < 64 }
+    requires unclaimed { get_or claimed.old id Bool.false ≡ Bool.false }
+    requires split { 2 < get_or (get_or heads.old id []) 0 0 }
     ensures { Walked (cols heads.old ids.old shares.old minima.old claimed.old seen.old acts.old c) (cols heads.new ids.new shares.new minima.new claimed.new seen.new acts.new result.counts) result.kept id }
 {
     let o = open_split(heads, ids, shares, minima, claimed, acts, c, id);
-    let mode = o.mode;
     let rows = o.rows;
     measured(rows);
     let children = rows.children;
     let olds = rows.shares;
     let least = rows.minima;
-    let n = children.len;
     let mut counts = o.counts;
     // the children that are kept, in place: the places past the tally's number are not read
-    let mut cs = [0u64; 16];
-    let mut ss = [0.0f64; 16];
-    let mut ms = [0.0f64; 16];
+    let mut cs = [0; 16];
+    let mut ss = [0.0; 16];
+    let mut ms = [0.0; 16];
     let mut tally = Tally {
         len: 0,
         moved: false,
     };
-    let mut j = 0usize;
-    while j < n {
+    for j in 0..children.len {
         let child = children.at[j];
         let w = normalize_node(
             heads, ids, shares, minima, claimed, seen, acts, counts, child,
         );
-        let kept = w.kept;
-        let after = w.counts;
-        if is_wide(kept) {
-            return Walk {
-                kept: Kept::Wide,
-                counts: after,
-            };
+        if is_wide(w.kept) {
+            return w;
         }
         let share = olds.at[j];
         let minimum = least.at[j];
-        let p = splits::place(
-            heads, ids, shares, minima, acts, &mut cs, &mut ss, &mut ms, after, mode, tally, share,
-            minimum, kept,
-        );
-        let placed = p.counts;
-        if p.wide {
+        let Some(p) = splits::place(
+            heads, ids, shares, minima, acts, &mut cs, &mut ss, &mut ms, w.counts, o.mode, tally,
+            share, minimum, w.kept,
+        ) else {
             return Walk {
                 kept: Kept::Wide,
-                counts: placed,
+                counts: w.counts,
             };
-        }
-        let more = p.tally;
-        tally = more;
-        counts = placed;
-        j += 1;
+        };
+        tally = p.tally;
+        counts = p.counts;
     }
-    let given = o.given;
     splits::split_done(
-        heads, ids, shares, minima, acts, &cs, &ss, &ms, counts, id, mode, given, tally,
+        heads, ids, shares, minima, acts, &cs, &ss, &ms, counts, id, o.mode, o.given, tally,
     )
 }

@@ -10,26 +10,16 @@ use noting::sweep;
 fn is_blank(h: [u64; 8]) -> bool
     ensures { result ≡ is_blank h }
 {
-    if h[0] != 2 {
-        return false;
-    }
-    if h[1] != 0 {
-        return false;
-    }
-    if h[3] != 0 {
-        return false;
-    }
-    h[4] == 0
+    h[0] == 2 && h[1] == 0 && h[3] == 0 && h[4] == 0
 }
 
 // The root's row of ids has 16 places, where there is one.
+// Kept: a lent array of rows tells its own length and not theirs: with no row handed on by value `length (get_or ids.now root []) ≡ 16` stays open.
 pub fn root_row(ids: &[[u64; 16]; 64], root: u64)
     ensures { root < 64 → length (get_or ids.now root []) ≡ 16 }
 {
     if root < 64 {
-        let i = root as usize;
-        let row = ids[i];
-        slots::full(row);
+        slots::full(ids[root as usize]);
     }
 }
 
@@ -49,8 +39,7 @@ pub fn lone_empty_root(
         return false;
     }
     let i = root as usize;
-    let head = heads[i];
-    if !is_blank(head) {
+    if !is_blank(heads[i]) {
         return false;
     }
     let mut claimed = [false; 64];

@@ -1,5 +1,5 @@
 // Repair of an arena's columns in place. A refused one may leave them half done: who must have them as they were keeps a copy.
-ghost use Rattle.std.specs.Prelude.{◌≡◌, Bool, ◌+◌, ◌≤◌, length};
+ghost use Rattle.std.specs.Prelude.{◌≡◌, Bool, ◌+◌, ◌≤◌};
 ghost use Rattle.rules.specs.Lists.{any_of};
 ghost use Rattle.columns.specs.Pack.{over_head};
 ghost use Rattle.columns.specs.Shown.{Plain};
@@ -30,7 +30,7 @@ fn finish(
     n: usize,
     root: u64,
 ) -> Settled
-    requires { (length heads.old ≡ 64) × (length claimed.now ≡ 64) × (n + 64 ≤ 1300) }
+    requires { n + 64 ≤ 1300 }
     ensures { Finishes heads.old claimed.now acts.old n root heads.new acts.new result }
 {
     let count = sweep::sweep(heads, claimed, acts, n);
@@ -49,14 +49,14 @@ fn plant(
     n: usize,
     spare: u64,
 ) -> Settled
-    requires { (length heads.old ≡ 64) × (length claimed.old ≡ 64) × (n + 64 ≤ 1300) }
+    requires { n + 64 ≤ 1300 }
     ensures { Plants heads.old claimed.old acts.old n spare heads.new acts.new result }
 {
     if 64 <= spare {
         return refused(Refusal::ArenaFull);
     }
     let i = spare as usize;
-    heads[i] = [2u64, 0, 0, 0, 0, 0, 0, 0];
+    heads[i] = [2, 0, 0, 0, 0, 0, 0, 0];
     claimed[i] = true;
     finish(heads, claimed, acts, n, spare)
 }
@@ -71,11 +71,12 @@ pub fn settle(
     minima: &mut [[f64; 16]; 64],
     acts: &mut [[u64; 3]],
 ) -> Settled
-    requires { Plain heads.old ids.old shares.old minima.old × (any_of over_head heads.old ≡ Bool.false) }
+    requires plain { Plain heads.old ids.old shares.old minima.old }
+    requires whole { any_of over_head heads.old ≡ Bool.false }
     ensures { Settles root spare heads.old ids.old shares.old minima.old heads.new ids.new shares.new minima.new acts.new result }
 {
     let mut claimed = [false; 64];
-    let mut seen = [0u64; 1024];
+    let mut seen = [0; 1024];
     let w = nodes::normalize_node(
         heads,
         ids,
@@ -87,11 +88,10 @@ pub fn settle(
         Counts { seen: 0, acts: 0 },
         root,
     );
-    let c = w.counts;
-    let kept = w.kept;
-    match kept {
-        Kept::At(top) => finish(heads, &claimed, acts, c.acts, top),
-        Kept::Gone => plant(heads, &mut claimed, acts, c.acts, spare),
+    let n = w.counts.acts;
+    match w.kept {
+        Kept::At(top) => finish(heads, &claimed, acts, n, top),
+        Kept::Gone => plant(heads, &mut claimed, acts, n, spare),
         Kept::Wide => refused(Refusal::TooWide),
     }
 }

@@ -39,6 +39,10 @@ use Rattle.columns.specs.ColumnLaws.{nodes-at, nodes-head, nodes-row, slim-set}
 pub active_past : (len active : ℕ) (at kept : List ℕ) → len ≤ active → 0 ≡ active_of (get_elem? (take len at) active) kept
 active_past len active at kept h = sym (ap (λ (o : Option ℕ). active_of o kept) (element-past (take len at) active (omega (arith, length-take len at))))
 
+pub first-or : (p : Std.Option ℕ) → Std.unwrap_or p 0 ≡ or_first (place_of p)
+first-or (Std.Some i) = refl
+first-or Std.None = refl
+
 pub active-at : (len active : ℕ) (at kept : List ℕ) (x : ℕ) (p : Std.Option ℕ) → len ≤ length at → active < len → x ≡ get_or (take len at) active 0
     → place_of p ≡ position (eqb x) kept → or_first (place_of p) ≡ active_of (get_elem? (take len at) active) kept
 active-at len active at kept x p l h e q =

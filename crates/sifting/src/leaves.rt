@@ -1,23 +1,21 @@
 // A tile that is no good, a pane tile and a group: the parts of normalize_node that call nothing back.
-ghost use Rattle.std.specs.Prelude.{[], ◌≡◌, ◌≤◌, ◌<◌, length, get_or};
+ghost use Rattle.std.specs.Prelude.{[], ◌≡◌, ◌≤◌, ◌<◌, get_or};
 ghost use Rattle.sifting.specs.Steps.{Open, Dropped, LeafWalked, GroupWalked};
 
 use crate::{Counts, Kept, Walk, panes};
 use noting::actions;
-use rules::model::Ids;
+use rules::model::{Ids, RepairAction, TileId};
 
 // A bad, empty or claimed id: noted, and dropped.
 pub fn gone(acts: &mut [[u64; 3]], c: Counts, id: u64) -> Walk
     requires { c.acts < 1300 }
     ensures { Dropped id acts.old c acts.new result.kept result.counts }
 {
-    let n = actions::note(acts, c.acts, actions::REMOVED_INVALID_NODE, id, 0);
+    let invalid = RepairAction::RemovedInvalidNode(TileId { slot: id });
+    let n = actions::note(acts, c.acts, invalid);
     Walk {
         kept: Kept::Gone,
-        counts: Counts {
-            seen: c.seen,
-            acts: n,
-        },
+        counts: Counts { acts: n, ..c },
     }
 }
 
@@ -30,31 +28,30 @@ pub fn pane_step(
     c: Counts,
     id: u64,
 ) -> Walk
-    requires { Open heads.old claimed.old c id × (get_or (get_or heads.old id []) 0 0 ≡ 1) }
+    requires slot { Open heads.old claimed.old c id }
+    requires pane { get_or (get_or heads.old id []) 0 0 ≡ 1 }
     ensures { LeafWalked heads.old claimed.old seen.old acts.old c heads.new claimed.new seen.new acts.new result.counts result.kept id }
 {
     let slot = id as usize;
     claimed[slot] = true;
-    let h = heads[slot];
-    let pane = h[2];
+    let pane = heads[slot][2];
     if panes::saw(seen, c.seen, pane) {
-        let n = actions::note(acts, c.acts, actions::REMOVED_DUPLICATE_PANE, id, pane);
-        heads[slot] = [0u64; 8];
+        let tile = TileId { slot: id };
+        let n = actions::note(
+            acts,
+            c.acts,
+            RepairAction::RemovedDuplicatePane { pane, tile },
+        );
+        heads[slot] = [0; 8];
         return Walk {
             kept: Kept::Gone,
-            counts: Counts {
-                seen: c.seen,
-                acts: n,
-            },
+            counts: Counts { acts: n, ..c },
         };
     }
     let n = panes::see(seen, c.seen, pane);
     Walk {
         kept: Kept::At(id),
-        counts: Counts {
-            seen: n,
-            acts: c.acts,
-        },
+        counts: Counts { seen: n, ..c },
     }
 }
 
@@ -68,29 +65,28 @@ pub fn group_step(
     c: Counts,
     id: u64,
 ) -> Walk
-    requires { Open heads.old claimed.old c id × (length ids.old ≡ 64) × (get_or (get_or heads.old id []) 0 0 ≡ 2) × (get_or (get_or heads.old id []) 4 0 ≤ 16) }
+    requires slot { Open heads.old claimed.old c id }
+    requires group { get_or (get_or heads.old id []) 0 0 ≡ 2 }
+    requires few { get_or (get_or heads.old id []) 4 0 ≤ 16 }
     ensures { GroupWalked heads.old ids.old claimed.old seen.old acts.old c heads.new ids.new claimed.new seen.new acts.new result.counts result.kept id }
 {
     let i = id as usize;
     claimed[i] = true;
     let h = heads[i];
-    let row = ids[i];
     let old = Ids {
-        at: row,
+        at: ids[i],
         len: h[4] as usize,
     };
     let s = panes::retain(seen, acts, c, id, old);
     let kept = s.list;
     let d = s.counts;
+    let tile = TileId { slot: id };
     if kept.len == 0 {
-        let n = actions::note(acts, d.acts, actions::REMOVED_INVALID_NODE, id, 0);
-        heads[i] = [0u64; 8];
+        let n = actions::note(acts, d.acts, RepairAction::RemovedInvalidNode(tile));
+        heads[i] = [0; 8];
         return Walk {
             kept: Kept::Gone,
-            counts: Counts {
-                seen: d.seen,
-                acts: n,
-            },
+            counts: Counts { acts: n, ..d },
         };
     }
     let active = panes::active_of(old, h[3] as usize, kept) as u64;
@@ -98,18 +94,13 @@ pub fn group_step(
         acts,
         d.acts,
         h[3] != active,
-        actions::REPAIRED_ACTIVE_TAB,
-        id,
-        0,
+        RepairAction::RepairedActiveTab(tile),
     );
     let at = kept.at;
     ids[i] = at;
     heads[i] = [2, h[1], 0, active, kept.len as u64, 0, 0, 0];
     Walk {
         kept: Kept::At(id),
-        counts: Counts {
-            seen: d.seen,
-            acts: n,
-        },
+        counts: Counts { acts: n, ..d },
     }
 }

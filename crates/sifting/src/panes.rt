@@ -1,5 +1,5 @@
 // The panes seen, and the panes of a group that are kept: the first sight of a pane wins.
-ghost use Rattle.std.specs.Prelude.{◌≡◌, [], ◌∷◌, ◌++◌, ◌+◌, ◌≤◌, ◌<◌, length, take};
+ghost use Rattle.std.specs.Prelude.{◌≡◌, [], ◌∷◌, ◌++◌, ◌+◌, ◌≤◌, ◌<◌, take};
 ghost use Rattle.std.proofs.Math.ListN.{get_elem?};
 ghost use Rattle.rules.specs.Lists as Lists;
 ghost use Rattle.rules.specs.Repair.{active_of};
@@ -8,34 +8,14 @@ ghost use Rattle.sifting.specs.Steps.{Sifts, Retains};
 
 use crate::Counts;
 use noting::actions;
-use rules::model::Ids;
-
-// The length of an array that is lent, which only one by value tells.
-fn row_of(seen: [u64; 1024])
-    ensures { length seen ≡ 1024 }
-{}
-
-fn sized(seen: &[u64; 1024])
-    ensures { length seen.now ≡ 1024 }
-{
-    let b = *seen;
-    row_of(b);
-}
+use rules::model::{Ids, RepairAction, TileId};
 
 // `panes.contains(&pane)`
 pub fn saw(seen: &[u64; 1024], n: usize, pane: u64) -> bool
     requires { n ≤ 1024 }
     ensures { result ≡ Lists.contains pane (take n seen.now) }
 {
-    sized(seen);
-    let mut i = 0usize;
-    while i < n {
-        if pane == seen[i] {
-            return true;
-        }
-        i += 1;
-    }
-    false
+    seen[..n].contains(&pane)
 }
 
 // `panes.push(pane)`: the number of panes after it.
@@ -43,7 +23,6 @@ pub fn see(seen: &mut [u64; 1024], n: usize, pane: u64) -> usize
     requires { n < 1024 }
     ensures { (result ≡ n + 1) × (take result seen.new ≡ take n seen.old ++ pane ∷ []) }
 {
-    sized(seen);
     seen[n] = pane;
     n + 1
 }
@@ -57,36 +36,36 @@ pub struct Sift {
 
 // The closure of `tabs.panes.retain`, at one pane.
 fn keep_pane(seen: &mut [u64; 1024], acts: &mut [[u64; 3]], s: Sift, id: u64, pane: u64) -> Sift
-    requires { (s.list.len < 16) × (s.counts.seen < 1024) × (s.counts.acts < 1300) }
+    requires place { s.list.len < 16 }
+    requires sight { s.counts.seen < 1024 }
+    requires listing { s.counts.acts < 1300 }
     ensures { Sifts id pane seen.old acts.old s seen.new acts.new result }
 {
     let c = s.counts;
     if saw(seen, c.seen, pane) {
-        let n = actions::note(acts, c.acts, actions::REMOVED_DUPLICATE_PANE, id, pane);
-        let list = s.list;
+        let tile = TileId { slot: id };
+        let n = actions::note(
+            acts,
+            c.acts,
+            RepairAction::RemovedDuplicatePane { pane, tile },
+        );
         return Sift {
-            list,
-            counts: Counts {
-                seen: c.seen,
-                acts: n,
-            },
+            list: s.list,
+            counts: Counts { acts: n, ..c },
         };
     }
     let n = see(seen, c.seen, pane);
-    let old = s.list;
-    let list = lists::push(old, pane);
     Sift {
-        list,
-        counts: Counts {
-            seen: n,
-            acts: c.acts,
-        },
+        list: lists::push(s.list, pane),
+        counts: Counts { seen: n, ..c },
     }
 }
 
 // `tabs.panes.retain`
 pub fn retain(seen: &mut [u64; 1024], acts: &mut [[u64; 3]], c: Counts, id: u64, panes: Ids) -> Sift
-    requires { (panes.len ≤ 16) × (c.seen + 16 ≤ 1024) × (c.acts + 16 ≤ 1300) }
+    requires few { panes.len ≤ 16 }
+    requires sights { c.seen + 16 ≤ 1024 }
+    requires listing { c.acts + 16 ≤ 1300 }
     ensures { Retains id (Tree.ids panes) seen.old acts.old c seen.new acts.new result.list result.counts }
 {
     let at = panes.at;
@@ -95,27 +74,21 @@ pub fn retain(seen: &mut [u64; 1024], acts: &mut [[u64; 3]], c: Counts, id: u64,
         list: lists::empty(),
         counts: c,
     };
-    let mut j = 0usize;
-    while j < n {
-        let next = keep_pane(seen, acts, s, id, at[j]);
-        s = next;
-        j += 1;
+    for j in 0..n {
+        s = keep_pane(seen, acts, s, id, at[j]);
     }
     s
 }
 
 // The active index, found again by its pane; 0 where there was none, or it is gone.
 pub fn active_of(panes: Ids, active: usize, kept: Ids) -> usize
-    requires { (panes.len ≤ 16) × (kept.len ≤ 16) }
+    requires few { panes.len ≤ 16 }
+    requires fewer { kept.len ≤ 16 }
     ensures { result ≡ active_of (get_elem? (Tree.ids panes) active) (Tree.ids kept) }
 {
     if panes.len <= active {
         return 0;
     }
     let pane = lists::get(panes, active, 0);
-    let place = lists::position(kept, pane);
-    match place {
-        Some(i) => i,
-        None => 0,
-    }
+    lists::position(kept, pane).unwrap_or(0)
 }

@@ -97,8 +97,7 @@ fn same_actions(b: &[u8], at: usize, r: Report) -> bool {
     let mut place = n.at;
     let mut j = 0usize;
     while j < len {
-        let listed = list[j];
-        let action = listed.action;
+        let action = list[j];
         let x = wire::threes::three(b, place);
         if !same_step(x, of_action(action)) {
             return false;

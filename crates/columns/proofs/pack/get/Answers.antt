@@ -6,6 +6,5 @@ use Rattle.columns.proofs.pack.get.Goals as goal
 pub returns : goal.returns
 returns c =
     let x = c.args in
-    let p = c.requires in
     let e = c.slot_of.ensures in
-    (e.0 ∙ sym (nodes-at x.heads.now x.ids.now x.shares.now x.minima.now p.0 p.1 p.2 p.3 x.i), e.1)
+    (e.0 ∙ sym (nodes-at x.heads.now x.ids.now x.shares.now x.minima.now c.told-heads c.told-ids c.told-shares c.told-minima x.i), e.1)

@@ -1,10 +1,6 @@
 -- `columns::unpack::unpack` fills the four columns slot by slot. Assumes nothing.
-use Prim.Native.Nat.{◌-◌}
 use Rattle.columns.specs.PackLaws.{Unpacking}
 use Rattle.columns.proofs.unpack.unpack.Given as goal
 
 abbrev pub invariant-loop-i : goal.invariant-loop-i
 invariant-loop-i l = Unpacking l.slots l.i l.heads l.ids l.shares l.minima
-
-abbrev pub decreases-loop-i : goal.decreases-loop-i
-decreases-loop-i l = 64 - l.i

@@ -1,18 +1,16 @@
 -- `keeping::splits::keep_split` stores the lists with their shares repaired. Assumes nothing.
-use mathlib.Core.Path.{refl, ap}
+use mathlib.Core.Path.{ap}
 use mathlib.Core.Bool.{Bool, not, ◌||◌}
-use Rattle.rules.specs.Tree.{tile}
-use Rattle.rules.specs.declared.model.RepairAction.TheVariants.{RepairedShares}
 use Rattle.sifting.specs.Work.{cols}
 use Rattle.melting.specs.Splits.{kids_in}
-use Rattle.melting.proofs.SplitLaws.{closed-more}
+use Rattle.melting.proofs.SplitLaws.{lent-in, closed-more}
 use Rattle.keeping.proofs.splits.keep_split.Goals as goal
 
 pub returns : goal.returns
 returns c =
     let a = c.args in
-    let L = c.requires.5 in
+    let L = lent-in a.cs.now a.ss.now a.ms.now a.t.len a.t.moved c.told-cs c.told-ss c.told-ms c.requires.tally in
     λ cs seen Z room.
-    closed-more (cols a.heads.now a.ids.now a.shares.now a.minima.now cs seen a.acts.now a.c) Z room a.id a.mode a.old (kids_in a.cs.now a.ss.now a.ms.now a.t.len a.t.moved) L.even L.long c.requires.8
+    closed-more (cols a.heads.now a.ids.now a.shares.now a.minima.now cs seen a.acts.now a.c) Z room a.id a.mode a.old (kids_in a.cs.now a.ss.now a.ms.now a.t.len a.t.moved) L.even L.long c.requires.many
     c.repaired_shares-repaired.result c.compact_constraints-compact.result c.repaired_shares-repaired.ensures c.compact_constraints-compact.ensures _
-    (ap (λ (b : Bool). a.t.moved || not b) c.eq_reals-same.ensures) _ _ _ _ c.store.ensures _ c.note_if-listed.result (c.note_if-listed.ensures (RepairedShares (tile a.id)) refl refl refl)
+    (ap (λ (b : Bool). a.t.moved || not b) c.eq_reals-same.ensures) _ _ _ _ c.store.ensures _ c.note_if-listed.result c.note_if-listed.ensures

@@ -2,7 +2,7 @@
 use Prim.Native.Nat.{◌*◌}
 use Rattle.forest.specs.Lists.{free}
 use Rattle.sifting.specs.Work.{cols}
-use Rattle.melting.proofs.SplitLaws.{placed-kept, room-kept, lent-moved, placed-gone}
+use Rattle.melting.proofs.SplitLaws.{lent-in, placed-kept, room-kept, lent-moved, placed-gone}
 use Rattle.keeping.proofs.splits.place.Goals as goal
 
 pub returns-in-At : goal.returns-in-At
@@ -15,7 +15,7 @@ returns-in-At c =
 pub returns-in-Gone : goal.returns-in-Gone
 returns-in-Gone c =
     let a = c.args in
-    let L = c.requires.5 in (
+    let L = lent-in a.cs.now a.ss.now a.ms.now a.t.len a.t.moved c.told-cs c.told-ss c.told-ms c.requires.tally in (
       lent-moved a.cs.now a.ss.now a.ms.now a.t.len a.t.moved L,
       λ cs seen e ps pm Z room.
           placed-kept c.in-Gone.is
@@ -23,4 +23,4 @@ returns-in-Gone c =
     )
 
 pub returns-in-Wide : goal.returns-in-Wide
-returns-in-Wide c = absurd (c.requires.7 c.in-Wide.is)
+returns-in-Wide c = absurd (c.requires.narrow c.in-Wide.is)

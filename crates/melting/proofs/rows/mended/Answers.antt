@@ -10,4 +10,4 @@ pub returns : goal.returns
 returns c =
     let k = c.args.k in
     let g : Long k = search rules in
-    mends k _ g (omega arith) refl c.repaired_shares-shares.ensures c.aligned_constraints-minima.ensures
+    mends k _ g (omega arith) refl c.repaired_shares.ensures c.aligned_constraints.ensures

@@ -1,7 +1,5 @@
 -- The cycle of `normalize::nodes::normalize_node` and `normalize_split`. Each answer hands paths to a law of WalkLaws. Assumes nothing.
-use mathlib.Core.Path.{◌≡◌}
-use Prim.Native.Nat.{◌+◌, ◌-◌}
-use lib.ListN.{length}
+use Prim.Native.Nat.{◌+◌}
 use Rattle.forest.specs.Lists.{free}
 use Rattle.sifting.specs.Work.{Cols, cols}
 use Rattle.melting.specs.Splits.{Long, kids_in}
@@ -16,10 +14,6 @@ decreases-normalize_split l = free l.claimed.now + free l.claimed.now
 
 abbrev pub invariant-normalize_split-loop-j : goal.invariant-normalize_split-loop-j
 invariant-normalize_split-loop-j l =
-    ((C₀ : Cols) → Ctx l.o.rows C₀ (cols l.initial.heads l.initial.ids l.initial.shares l.initial.minima l.initial.claimed l.initial.seen l.initial.acts l.initial.counts) l.id l.mode l.o.given
-    → Going l.o.rows C₀ (cols l.initial.heads l.initial.ids l.initial.shares l.initial.minima l.initial.claimed l.initial.seen l.initial.acts l.initial.counts) l.id l.mode l.o.given (cols l.heads l.ids l.shares l.minima l.claimed l.seen l.acts l.counts) (kids_in l.cs l.ss l.ms l.tally.len l.tally.moved) l.j)
-    × (length l.acts ≡ length l.initial.acts) × Long (kids_in l.cs l.ss l.ms l.tally.len l.tally.moved)
-
-abbrev pub decreases-normalize_split-loop-j : goal.decreases-normalize_split-loop-j
-decreases-normalize_split-loop-j l =
-    l.n - l.j
+    ((C₀ : Cols) → Ctx l.o.rows C₀ (cols l.initial.heads l.initial.ids l.initial.shares l.initial.minima l.initial.claimed l.initial.seen l.initial.acts l.initial.counts) l.id l.o.mode l.o.given
+    → Going l.o.rows C₀ (cols l.initial.heads l.initial.ids l.initial.shares l.initial.minima l.initial.claimed l.initial.seen l.initial.acts l.initial.counts) l.id l.o.mode l.o.given (cols l.heads l.ids l.shares l.minima l.claimed l.seen l.acts l.counts) (kids_in l.cs l.ss l.ms l.tally.len l.tally.moved) l.j)
+    × Long (kids_in l.cs l.ss l.ms l.tally.len l.tally.moved)

@@ -1,4 +1,5 @@
 -- `normalize::nodes::open_split` meets its contract, by the law `opens`. Assumes nothing.
+use native.Mathlib.Omega.{arith}
 use Rattle.normalize.proofs.WalkLaws.{opens}
 use Rattle.normalize.proofs.nodes.open_split.Goals as goal
 
@@ -7,4 +8,4 @@ returns c seen S =
     let p = c.requires in
     let x = c.args in
     opens x.heads.now x.ids.now x.shares.now x.minima.now x.claimed.now seen x.acts.now x.c x.id
-    S p.0 p.7 p.8 p.9 p.10 p.11 c.load-row.result c.mended-rows.result c.load-row.ensures c.mended-rows.ensures c.split_noted-n.new.acts c.split_noted-n.result c.split_noted-n.ensures
+    S p.inside p.unclaimed p.listing (λ e. absurd (omega (arith, p.split, e))) (λ e. absurd (omega (arith, p.split, e))) (λ e. absurd (omega (arith, p.split, e))) c.load-row.result c.mended-rows.result c.load-row.ensures c.mended-rows.ensures c.split_noted-n.new.acts c.split_noted-n.result c.split_noted-n.ensures

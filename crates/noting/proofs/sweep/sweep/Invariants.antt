@@ -1,12 +1,6 @@
 -- `noting::sweep::sweep` passes one slot after another. Assumes nothing.
-use mathlib.Core.Path.{◌≡◌}
-use Prim.Native.Nat.{◌-◌}
-use lib.ListN.{length}
 use Rattle.columns.specs.PackLaws.{Sweeping}
 use Rattle.noting.proofs.sweep.sweep.Given as goal
 
 abbrev pub invariant-loop-i : goal.invariant-loop-i
-invariant-loop-i l = Sweeping l.initial.heads l.claimed l.initial.acts l.n l.heads l.acts l.m l.i × (length l.acts ≡ length l.initial.acts)
-
-abbrev pub decreases-loop-i : goal.decreases-loop-i
-decreases-loop-i l = 64 - l.i
+invariant-loop-i l = Sweeping l.initial.heads l.claimed l.initial.acts l.n l.heads l.acts l.m l.i

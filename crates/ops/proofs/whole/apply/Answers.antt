@@ -18,12 +18,6 @@ returns-then-not-done c =
     let K : Columned t _ _ _ _ = record { size = c.sized.ensures; columns = c.unpack.ensures } in
     given-applies t c.args.op _ (tree-shown t _ _ _ _ K) c.apply_columns-done.result _ _ _ _ c.apply_columns-done.ensures _ refl (not-true c.apply_columns-done.result.changed c.if-not-done.true) refl
 
-pub pack-slots-requires : goal.pack-slots-requires
-pack-slots-requires c =
-    let d = c.apply_columns-done in
-    let E = (d.ensures.0.tree (d.ensures.0.taken (not-false d.result.changed c.if-not-done.false))).1 in
-    (E.heads, E.ids, E.shares, E.minima)
-
 pub returns : goal.returns
 returns c =
     let t = c.args.t in

@@ -3,11 +3,6 @@ use mathlib.Core.Path.{refl}
 use Rattle.repair.proofs.PackedLaws.{packs-accepted, packs-refused}
 use Rattle.repair.proofs.whole.packed.Goals as goal
 
-pub pack-slots-requires : goal.pack-slots-requires
-pack-slots-requires c =
-    let p = c.requires.plain c.in-Ok.is in
-    (p.heads, p.ids, p.shares, p.minima)
-
 pub returns-in-Ok : goal.returns-in-Ok
 returns-in-Ok c =
     let x = c.args in

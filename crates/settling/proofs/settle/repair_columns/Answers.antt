@@ -10,7 +10,7 @@ returns-then-heads_over c =
 
 pub settle-requires : goal.settle-requires
 settle-requires c =
-    (c.requires, sym c.heads_over.ensures ∙ c.if-heads_over.false)
+    record { plain = c.requires; whole = sym c.heads_over.ensures ∙ c.if-heads_over.false }
 
 pub returns : goal.returns
 returns c =

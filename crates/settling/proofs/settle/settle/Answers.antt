@@ -8,30 +8,27 @@ use Rattle.settling.proofs.settle.settle.Goals as goal
 pub normalize_node-w-requires : goal.normalize_node-w-requires
 normalize_node-w-requires c =
     let x = c.args in
-    let (p, whole) = c.requires in
-    (start-sized x.heads.now x.ids.now x.shares.now x.minima.now _ _ p.heads p.ids p.shares p.minima (slim-heads x.heads.now whole), omega arith)
+    record { sized = start-sized x.heads.now x.ids.now x.shares.now x.minima.now _ _ c.told-heads c.told-ids c.told-shares c.told-minima (slim-heads x.heads.now c.requires.whole); listing = omega arith }
 
 pub finish-requires : goal.finish-requires
 finish-requires c =
-    let W = c.normalize_node-w.ensures in
-    (W.sized.heads, W.sized.flags, room-left _ W.sized)
+    room-left _ c.normalize_node-w.ensures.sized
 
 pub plant-requires : goal.plant-requires
 plant-requires c =
-    let W = c.normalize_node-w.ensures in
-    (W.sized.heads, W.sized.flags, room-left _ W.sized)
+    room-left _ c.normalize_node-w.ensures.sized
 
 pub returns-in-At : goal.returns-in-At
 returns-in-At c =
     let x = c.args in
-    ends-kept x.root x.heads.now x.ids.now x.shares.now x.minima.now c.requires.0 _ _ _ c.normalize_node-w.result.kept c.normalize_node-w.ensures x.spare _ _ c.finish.result c.in-At.top c.in-At.is c.finish.ensures
+    ends-kept x.root x.heads.now x.ids.now x.shares.now x.minima.now c.requires.plain _ _ _ c.normalize_node-w.result.kept c.normalize_node-w.ensures x.spare _ _ c.finish.result c.in-At.top c.in-At.is c.finish.ensures
 
 pub returns-in-Gone : goal.returns-in-Gone
 returns-in-Gone c =
     let x = c.args in
-    ends-gone x.root x.heads.now x.ids.now x.shares.now x.minima.now c.requires.0 _ _ _ c.normalize_node-w.result.kept c.normalize_node-w.ensures x.spare _ _ c.plant.result c.in-Gone.is c.plant.ensures
+    ends-gone x.root x.heads.now x.ids.now x.shares.now x.minima.now c.requires.plain _ _ _ c.normalize_node-w.result.kept c.normalize_node-w.ensures x.spare _ _ c.plant.result c.in-Gone.is c.plant.ensures
 
 pub returns-in-Wide : goal.returns-in-Wide
 returns-in-Wide c =
     let x = c.args in
-    ends-wide x.root x.heads.now x.ids.now x.shares.now x.minima.now c.requires.0 _ _ _ c.normalize_node-w.result.kept c.normalize_node-w.ensures x.spare _ _ c.refused.result c.in-Wide.is c.refused.ensures
+    ends-wide x.root x.heads.now x.ids.now x.shares.now x.minima.now c.requires.plain _ _ _ c.normalize_node-w.result.kept c.normalize_node-w.ensures x.spare _ _ c.refused.result c.in-Wide.is c.refused.ensures

@@ -1,12 +1,7 @@
 -- `sifting::panes::retain` is the rule's `retain`: its loop, by what is left. Assumes nothing.
-use mathlib.Core.Path.{◌≡◌}
-use Prim.Native.Nat.{◌-◌}
-use lib.ListN.{length, take}
+use lib.ListN.{take}
 use Rattle.sifting.proofs.LeafLaws.{Sifting}
 use Rattle.sifting.proofs.panes.retain.Given as goal
 
 abbrev pub invariant-loop-j : goal.invariant-loop-j
-invariant-loop-j l = Sifting l.id (take l.n l.at) l.initial.seen l.initial.acts l.initial.s l.seen l.acts l.s l.j × (length l.acts ≡ length l.initial.acts)
-
-abbrev pub decreases-loop-j : goal.decreases-loop-j
-decreases-loop-j l = l.n - l.j
+invariant-loop-j l = Sifting l.id (take l.n l.at) l.initial.seen l.initial.acts l.initial.s l.seen l.acts l.s l.j

@@ -7,10 +7,5 @@ use Rattle.spec.proofs.whole.from_spec.Goals as goal
 pub spec_into-r-requires : goal.spec_into-r-requires
 spec_into-r-requires c = bare _ _
 
-pub pack-slots-requires : goal.pack-slots-requires
-pack-slots-requires c =
-    let p = c.spec_into-r.ensures.plain in
-    (p.heads, p.ids, p.shares, p.minima)
-
 pub returns : goal.returns
 returns c = packed-in _ _ _ _ _ _ _ c.spec_into-r.ensures _ refl refl c.pack-slots.ensures
