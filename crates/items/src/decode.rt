@@ -99,10 +99,7 @@ pub fn painted_of(e: Entry) -> Option<FrameItemId>
         Entry::Focus(_) | Entry::SplitChild(_) => None,
         Entry::Pane(f) => Some(FrameItemId::Pane(f.pane)),
         Entry::TabBar(f) => Some(FrameItemId::TabBar(f.group)),
-        Entry::Tab(f) => Some(FrameItemId::Tab {
-            group: f.group,
-            pane: f.pane,
-        }),
+        Entry::Tab(TabFrame { group, pane, .. }) => Some(FrameItemId::Tab { group, pane }),
         Entry::SplitHandle(f) => Some(FrameItemId::SplitHandle {
             split: f.split,
             handle: f.handle,

@@ -60,6 +60,7 @@ fn handle_after(
 }
 
 // layout_tile
+// Kept: the four columns are four parameters, as C lends them to `layout_columns`. In a struct of them each clause would name the struct four times.
 #[cycle(layout_split_layout_tile)]
 pub fn layout_tile(
     heads: &[[u64; 8]; 64],
@@ -120,7 +121,8 @@ fn layout_split(
     input: LayoutInput,
     depth: u64,
 ) -> usize
-    requires { Grid heads.now ids.now shares.now minima.now × (id < 64) }
+    requires grid { Grid heads.now ids.now shares.now minima.now }
+    requires within { id < 64 }
     ensures { Streams.stream items.new rects.new result ≡ Streams.push_all (Rule.layout_split (Rule.layout_tile depth (nodes_from heads.now ids.now shares.now minima.now) input) (tile id) (axis_from (get_or (get_or heads.now id []) 1 0)) (map tile (take (get_or (get_or heads.now id []) 4 0) (get_or ids.now id []))) (take (get_or (get_or heads.now id []) 5 0) (get_or shares.now id [])) (take (get_or (get_or heads.now id []) 6 0) (get_or minima.now id [])) rect input) (Streams.stream items.old rects.old n) }
 {
     let i = id as usize;

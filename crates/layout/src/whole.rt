@@ -26,7 +26,8 @@ fn place(
     items: &mut [[u64; 5]; 2304],
     rects: &mut [[f64; 4]; 2304],
 ) -> usize
-    requires { Plain heads.now ids.now shares.now minima.now × (sound (arena_from root 0 heads.now ids.now shares.now minima.now) ≡ Bool.true) }
+    requires plain { Plain heads.now ids.now shares.now minima.now }
+    requires sound { sound (arena_from root 0 heads.now ids.now shares.now minima.now) ≡ Bool.true }
     ensures { Streams.stream items.new rects.new result ≡ Streams.push_all (layout_items (arena_from root 0 heads.now ids.now shares.now minima.now) input) (Streams.stream items.old rects.old 0) }
 {
     settling::lone::root_row(ids, root);

@@ -12,6 +12,7 @@ fn coordinate_ok(x: f64) -> bool
 }
 
 // From 0 to 2^20.
+// Kept: beside `coordinate_ok`. Each is one line; one test of both bounds would be called eight times with the bound that the two names say.
 fn thickness_ok(x: f64) -> bool
     ensures { result ≡ Rule.thickness_ok x }
 {

@@ -15,7 +15,7 @@ use rules::model::{TabBarPlacement, TileId};
 
 // The Rust's `tabs.active.min(tabs.panes.len() - 1)`.
 fn active_index(active: u64, count: usize) -> usize
-    requires { (0 < count) × (count ≤ 16) }
+    requires { 0 < count }
     ensures { (result ≡ min active (count - 1)) × (result < count) }
 {
     active.min(count as u64 - 1) as usize

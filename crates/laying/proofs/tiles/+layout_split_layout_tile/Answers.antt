@@ -14,17 +14,17 @@ use Rattle.laying.proofs.TileLaws.{tile-zero, tile-past, tile-empty, tile-pane, 
 use Rattle.laying.proofs.tiles.+layout_split_layout_tile.Goals as goal
 
 pub layout_split-split_lengths-lengths-requires : goal.layout_split-split_lengths-lengths-requires
-layout_split-split_lengths-lengths-requires t c = c.requires.0.slim c.args.id
+layout_split-split_lengths-lengths-requires t c = c.requires.grid.slim c.args.id
 
 pub layout_split-offset_bounds-children-j : goal.layout_split-offset_bounds-children-j
-layout_split-offset_bounds-children-j t c = omega (arith, (c.requires.0.slim c.args.id).0)
+layout_split-offset_bounds-children-j t c = omega (arith, (c.requires.grid.slim c.args.id).0)
 
 pub layout_split-bounds-children-j : goal.layout_split-bounds-children-j
-layout_split-bounds-children-j t c = omega (arith, (c.requires.0.slim c.args.id).0)
+layout_split-bounds-children-j t c = omega (arith, (c.requires.grid.slim c.args.id).0)
 
 pub layout_split-layout_tile-m-requires : goal.layout_split-layout_tile-m-requires
 layout_split-layout_tile-m-requires t c =
-    (omega (arith), c.requires.0)
+    (omega (arith), c.requires.grid)
 
 pub layout_split-loop-j-preserved : goal.layout_split-loop-j-preserved
 unfolding of_bits
@@ -34,7 +34,7 @@ layout_split-loop-j-preserved t c =
     let again = layout_tile a.depth (nodes_from a.heads.now a.ids.now a.shares.now a.minima.now) a.input in
     let row = get_or a.ids.now a.id [] in
     let count = get_or (get_or a.heads.now a.id []) 4 0 in
-    let few : count ≤ length row = omega (arith, (c.requires.0.slim a.id).0, c.full.ensures) in
+    let few : count ≤ length row = omega (arith, (c.requires.grid.slim a.id).0, c.full.ensures) in
     let ls = reals c.split_lengths-lengths.result in
     let handle = a.input.split_handle_thickness in
     let axis = c.axis_of-axis.result in
@@ -53,7 +53,7 @@ layout_split-returns t c =
     let h = get_or a.heads.now a.id [] in
     let row = get_or a.ids.now a.id [] in
     let count = get_or h 4 0 in
-    let few : count ≤ length row = omega (arith, (c.requires.0.slim a.id).0, c.full.ensures) in
+    let few : count ≤ length row = omega (arith, (c.requires.grid.slim a.id).0, c.full.ensures) in
     let ls = reals c.split_lengths-lengths.result in
     let handle = a.input.split_handle_thickness in
     let axis = c.axis_of-axis.result in

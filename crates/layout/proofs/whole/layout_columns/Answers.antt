@@ -20,7 +20,7 @@ returns-then-not-input_ok c =
 
 pub place-len-requires : goal.place-len-requires
 place-len-requires c =
-    (c.requires, sym (c.sound_columns.ensures 0) ∙ c.if-not-sound_columns.false)
+    record { plain = c.requires; sound = sym (c.sound_columns.ensures 0) ∙ c.if-not-sound_columns.false }
 
 pub returns : goal.returns
 returns c =
