@@ -1,4 +1,5 @@
 -- Laws of a whole layout by value: what was sorted out of the stream is the rule's frame. Assumes nothing.
+use Rattle.std.specs.Prelude.{Ok, Err}
 use mathlib.Core.Path.{◌≡◌, refl, sym, ap, subst, ◌∙◌}
 use mathlib.Core.Bool.{Bool, true, false}
 use mathlib.Core.List.{List, []}
@@ -17,8 +18,8 @@ use Rattle.rules.specs.declared.frame.TabFrame.{TabFrame}
 use Rattle.rules.specs.declared.frame.SplitChildFrame.{SplitChildFrame}
 use Rattle.rules.specs.declared.frame.SplitHandleFrame.{SplitHandleFrame}
 use Rattle.rules.specs.declared.frame.FrameItemId.{FrameItemId}
-use Rattle.rules.specs.declared.refusal.Answer.{Answer}
-use Rattle.rules.specs.declared.refusal.Answer.TheVariants.{Accepted, Refused}
+use Rattle.rules.specs.Refusals.{Answer}
+use Rattle.rules.specs.Refusals.{Accepted, Refused}
 use Rattle.frames.specs.Fits.{panes-fit, bars-fit, tabs-fit, children-fit, handles-fit, focus-fits, paint-fits}
 use Rattle.streaming.specs.Stream.{stream, items_from, items_in}
 use Rattle.layout.specs.Whole.{LaysOut}
@@ -46,9 +47,9 @@ module _ (t : TileTree) (i : LayoutInput) (cs : List (List ℕ)) (qs : List (Lis
   fits f most h = by r.answer refl
     where
       by : (x : Answer) → r.answer ≡ x → length (gather f found) ≤ most
-      by Accepted e =
+      by (Ok _) e =
           subst (λ (xs : List Item). length (gather f xs) ≤ most) (sym (W.items e)) (h (accepted-sound (view t) i (ap (λ (l : Laid). l.answer) (sym W.right) ∙ e)))
-      by (Refused x) e =
+      by (Err x) e =
           let none : found ≡ [] = ap (λ (n : ℕ). items_in (stream cs' qs' n)) (W.untouched x e).0 in
           subst (λ (xs : List Item). length (gather f xs) ≤ most) (sym none) (omega arith)
 

@@ -3,7 +3,7 @@ ghost use Rattle.std.specs.Prelude.{◌≡◌, ◌≤◌, List, Option, take};
 ghost use Rattle.rules.specs.Frame as Rule;
 ghost use Rattle.streaming.specs.declared.stream.Entry.{Entry};
 ghost use Rattle.streaming.specs.Stream.{item_of, items_from};
-ghost use Rattle.items.specs.Lists.{Sorted, listed};
+ghost use Rattle.items.specs.Lists.{Sorted, taken};
 
 use crate::FrameList;
 use items::decode;
@@ -19,7 +19,7 @@ pub fn sorted<T: Copy, const N: usize, F: Fn(Entry) -> Option<T>>(
 ) -> FrameList<T, N>
     requires within { n ≤ 2304 }
     requires callable { F.IsAlwaysCallable pick }
-    ensures { (f : Rule.Item → List T) → ((e : Entry) (r : Option T) → F.post pick e r → listed r ≡ f (item_of e)) → Sorted N (Rule.gather f (items_from (take n items.now) (take n rects.now))) result.at result.len }
+    ensures { (f : Rule.Item → List T) → ((e : Entry) (r : Option T) → F.post pick e r → taken r ≡ f (item_of e)) → Sorted N (Rule.gather f (items_from (take n items.now) (take n rects.now))) result.at result.len }
 {
     let mut at = [none; N];
     let mut len = 0usize;

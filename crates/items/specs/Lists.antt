@@ -28,9 +28,9 @@ handle_from c q = record { split = tile (get_or c 1 0); handle = get_or c 3 0; a
 
 -- ---- what a list takes of an entry: one element or none
 
-abbrev pub listed : {A : Type 0} → Option A → List A
-listed (Some x) = x ∷ []
-listed None = []
+abbrev pub taken : {A : Type 0} → Option A → List A
+taken (Some x) = x ∷ []
+taken None = []
 
 -- ---- a list with a length, in which there is room for `most`
 

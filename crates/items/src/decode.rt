@@ -93,7 +93,7 @@ pub fn entry_of(row: [u64; 5], q: [f64; 4]) -> Entry
 
 // What the paint order names: each entry but a pane of the focus order and a split's child.
 pub fn painted_of(e: Entry) -> Option<FrameItemId>
-    ensures { Lists.listed result ≡ paint_of (Streams.item_of e) }
+    ensures { Lists.taken result ≡ paint_of (Streams.item_of e) }
 {
     match e {
         Entry::Focus(_) | Entry::SplitChild(_) => None,

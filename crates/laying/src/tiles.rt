@@ -138,7 +138,7 @@ fn layout_split(
     let mut m = n;
     for j in 0..count {
         let child = children[j];
-        let length = real_lists::reals::get(lengths, j, 0.0);
+        let length = lists::get(lengths, j, 0.0);
         let room = splits::along_rect(axis, rect, at, length);
         let shown = SplitChildFrame {
             split: TileId { slot: id },

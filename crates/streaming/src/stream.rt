@@ -1,10 +1,8 @@
 // The stream of items: the Rust's pushes to a LayoutFrame's lists. 2,304 places always suffice for a sound tree.
 ghost use Rattle.std.specs.Prelude.{◌≡◌};
-ghost use Rattle.rules.specs.Tree.{axis_code};
 ghost use Rattle.streaming.specs.Stream as Streams;
 
 use rules::frame::{PaneFrame, Rect, SplitChildFrame, SplitHandleFrame, TabBarFrame, TabFrame};
-use rules::model::Axis;
 
 // Kept: C and the hosts read an entry's kind as a number in a row of five (tiling_c's `lay`; `LaysOut`, its clause `codes`).
 pub const FOCUS: u64 = 0;
@@ -30,15 +28,6 @@ pub enum Entry {
     SplitHandle(SplitHandleFrame),
 }
 
-fn axis_code(axis: Axis) -> u64
-    ensures { result ≡ axis_code axis }
-{
-    match axis {
-        Axis::Horizontal => 0,
-        Axis::Vertical => 1,
-    }
-}
-
 // An entry as five numbers.
 pub fn code_of(e: Entry) -> [u64; 5]
     ensures { result ≡ Streams.code_of (Streams.item_of e) }
@@ -51,7 +40,7 @@ pub fn code_of(e: Entry) -> [u64; 5]
             f.group.slot,
             f.active_pane,
             0,
-            columns::unpack::bar_code(f.placement),
+            f.placement as u64,
         ],
         Entry::Tab(f) => [TAB, f.group.slot, f.pane, f.index as u64, f.active as u64],
         Entry::SplitChild(f) => [SPLIT_CHILD, f.split.slot, f.child.slot, f.index as u64, 0],
@@ -60,7 +49,7 @@ pub fn code_of(e: Entry) -> [u64; 5]
             f.split.slot,
             0,
             f.handle as u64,
-            axis_code(f.axis),
+            f.axis as u64,
         ],
     }
 }
