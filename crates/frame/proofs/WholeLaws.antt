@@ -2,7 +2,7 @@
 use Rattle.std.specs.Prelude.{Ok, Err}
 use mathlib.Core.Path.{◌≡◌, refl, sym, ap, subst, ◌∙◌}
 use mathlib.Core.Bool.{Bool, true, false}
-use mathlib.Core.List.{List, [], map}
+use mathlib.Core.List.{List, []}
 use Prim.Native.Nat.{ℕ, ◌≤◌}
 use native.Mathlib.Omega.{arith}
 use lib.ListN.{length, length-map}
@@ -12,6 +12,12 @@ use Rattle.rules.specs.Sound.{sound}
 use Rattle.rules.specs.Frame.{Item, Laid, gather, pane_of, bar_of, tab_of, child_of, handle_of, focus_of, paint_of, layout_by, layout, layout_items, plus_input}
 use Rattle.rules.specs.declared.model.TileTree.{TileTree}
 use Rattle.rules.specs.declared.frame.LayoutInput.{LayoutInput}
+use Rattle.rules.specs.declared.frame.PaneFrame.{PaneFrame}
+use Rattle.rules.specs.declared.frame.TabBarFrame.{TabBarFrame}
+use Rattle.rules.specs.declared.frame.TabFrame.{TabFrame}
+use Rattle.rules.specs.declared.frame.SplitChildFrame.{SplitChildFrame}
+use Rattle.rules.specs.declared.frame.SplitHandleFrame.{SplitHandleFrame}
+use Rattle.rules.specs.declared.frame.FrameItemId.{FrameItemId}
 use Rattle.rules.specs.Refusals.{Answer}
 use Rattle.rules.specs.Refusals.{Accepted, Refused}
 use Rattle.frames.specs.Fits.{panes-fit, bars-fit, tabs-fit, children-fit, handles-fit, focus-fits, paint-fits}
@@ -19,14 +25,8 @@ use Rattle.streaming.specs.Stream.{stream, items_from, items_in}
 use Rattle.layout.specs.Whole.{LaysOut}
 use Rattle.layout.specs.declared.LaidOut.{LaidOut}
 use Rattle.items.specs.Lists.{Sorted}
-use Rattle.frame.specs.Frames.{item_of, view_layout}
-use Rattle.frame.specs.declared.Panes.{Panes}
-use Rattle.frame.specs.declared.TabBars.{TabBars}
-use Rattle.frame.specs.declared.Tabs.{Tabs}
-use Rattle.frame.specs.declared.SplitChildren.{SplitChildren}
-use Rattle.frame.specs.declared.SplitHandles.{SplitHandles}
-use Rattle.frame.specs.declared.FocusOrder.{FocusOrder}
-use Rattle.frame.specs.declared.PaintOrder.{PaintOrder}
+use Rattle.frame.specs.Frames.{view_layout}
+use Rattle.frame.specs.declared.FrameList.{FrameList}
 
 -- an accepted layout is of a sound tree
 accepted-sound : (a : Arena) (i : LayoutInput) → (layout a i).answer ≡ Accepted → sound a ≡ true
@@ -56,10 +56,10 @@ module _ (t : TileTree) (i : LayoutInput) (cs : List (List ℕ)) (qs : List (Lis
   long : length (view t).nodes ≡ 64
   long = length-map t.slots view_slot ∙ size
 
-  pub laid : (ps : Panes) (bs : TabBars) (ts : Tabs) (ks : SplitChildren) (hs : SplitHandles) (fs : FocusOrder) (os : PaintOrder)
+  pub laid : (ps : FrameList PaneFrame 64) (bs : FrameList TabBarFrame 64) (ts : FrameList TabFrame 1024) (ks : FrameList SplitChildFrame 64) (hs : FrameList SplitHandleFrame 64) (fs : FrameList ℕ 1024) (os : FrameList FrameItemId 1216)
       → Sorted 64 (gather pane_of found) ps.at ps.len → Sorted 64 (gather bar_of found) bs.at bs.len → Sorted 1024 (gather tab_of found) ts.at ts.len
       → Sorted 64 (gather child_of found) ks.at ks.len → Sorted 64 (gather handle_of found) hs.at hs.len
-      → Sorted 1024 (gather focus_of found) fs.at fs.len → Sorted 1216 (gather paint_of found) (map item_of os.at) os.len
+      → Sorted 1024 (gather focus_of found) fs.at fs.len → Sorted 1216 (gather paint_of found) os.at os.len
       → view_layout (record { answer = r.answer; revision = r.revision; panes = ps; tab_bars = bs; tabs = ts; split_children = ks; split_handles = hs; focus_order = fs; paint_order = os }) ≡ layout (view t) i
   laid ps bs ts ks hs fs os p b s k h f o =
       let j = plus_input i in

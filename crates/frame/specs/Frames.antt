@@ -1,12 +1,7 @@
 -- A frame by value, read as the rule's. Definitions only.
-use Rattle.std.specs.Prelude.{map, take}
+use Rattle.std.specs.Prelude.{take}
 use Rattle.rules.specs.Frame.{Laid}
-use Rattle.rules.specs.declared.frame.FrameItemId.{FrameItemId}
-use Rattle.items.specs.declared.Painted.{Painted}
 use Rattle.frame.specs.declared.Layout.{Layout}
-
-abbrev pub item_of : Painted → FrameItemId
-item_of p = p.item
 
 -- places past a list's length are passed over
 abbrev pub view_layout : Layout → Laid
@@ -22,6 +17,6 @@ view_layout l =
             split_children = take l.split_children.len l.split_children.at;
             split_handles = take l.split_handles.len l.split_handles.at;
             focus_order = take l.focus_order.len l.focus_order.at;
-            paint_order = take l.paint_order.len (map item_of l.paint_order.at);
+            paint_order = take l.paint_order.len l.paint_order.at;
           };
     }

@@ -1,57 +1,38 @@
 // A frame by value: the Rust's LayoutFrame (frame.rs), its seven lists sorted out of the stream that the crate layout writes.
 #![tactic(auto)]
 
-use items::Painted;
-use rules::frame::{PaneFrame, SplitChildFrame, SplitHandleFrame, TabBarFrame, TabFrame};
+use rules::frame::{
+    FrameItemId, PaneFrame, SplitChildFrame, SplitHandleFrame, TabBarFrame, TabFrame,
+};
 use rules::refusal::Answer;
 
 pub mod branches;
 pub mod leaves;
 pub mod orders;
+pub mod sorting;
 pub mod whole;
 
-// The Rust's growing lists. The places of each suffice for every sound tree.
+// One of the Rust's growing lists, in N places.
 #[derive(Clone, Copy)]
-pub struct Panes {
-    pub at: [PaneFrame; 64],
+pub struct FrameList<T, const N: usize> {
+    pub at: [T; N],
     pub len: usize,
 }
 
-#[derive(Clone, Copy)]
-pub struct TabBars {
-    pub at: [TabBarFrame; 64],
-    pub len: usize,
-}
+// The places of each suffice for every sound tree.
+pub type Panes = FrameList<PaneFrame, 64>;
 
-#[derive(Clone, Copy)]
-pub struct Tabs {
-    pub at: [TabFrame; 1024],
-    pub len: usize,
-}
+pub type TabBars = FrameList<TabBarFrame, 64>;
 
-#[derive(Clone, Copy)]
-pub struct SplitChildren {
-    pub at: [SplitChildFrame; 64],
-    pub len: usize,
-}
+pub type Tabs = FrameList<TabFrame, 1024>;
 
-#[derive(Clone, Copy)]
-pub struct SplitHandles {
-    pub at: [SplitHandleFrame; 64],
-    pub len: usize,
-}
+pub type SplitChildren = FrameList<SplitChildFrame, 64>;
 
-#[derive(Clone, Copy)]
-pub struct FocusOrder {
-    pub at: [u64; 1024],
-    pub len: usize,
-}
+pub type SplitHandles = FrameList<SplitHandleFrame, 64>;
 
-#[derive(Clone, Copy)]
-pub struct PaintOrder {
-    pub at: [Painted; 1216],
-    pub len: usize,
-}
+pub type FocusOrder = FrameList<u64, 1024>;
+
+pub type PaintOrder = FrameList<FrameItemId, 1216>;
 
 // What a layout answers: the frame of a revision; or a refusal, and empty lists.
 #[derive(Clone, Copy)]

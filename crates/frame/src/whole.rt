@@ -12,29 +12,19 @@ use rules::model::TileTree;
 pub fn layout(t: TileTree, input: LayoutInput) -> Layout
     ensures { view_layout result ≡ Rule.layout (view t) input }
 {
-    let slots = t.slots;
-    columns::slots::sized(slots);
     let mut items = [[0u64; 5]; 2304];
     let mut rects = [[0.0f64; 4]; 2304];
     let l = layout::whole::layout_into(t, input, &mut items, &mut rects);
     let n = l.len;
-    let panes = leaves::panes(&items, &rects, n);
-    let tab_bars = leaves::tab_bars(&items, &rects, n);
-    let tabs = leaves::tabs(&items, &rects, n);
-    let split_children = branches::split_children(&items, &rects, n);
-    let split_handles = branches::split_handles(&items, &rects, n);
-    let focus_order = orders::focus_order(&items, &rects, n);
-    let paint_order = orders::paint_order(&items, &rects, n);
-    let answer = l.answer;
     Layout {
-        answer,
+        answer: l.answer,
         revision: l.revision,
-        panes,
-        tab_bars,
-        tabs,
-        split_children,
-        split_handles,
-        focus_order,
-        paint_order,
+        panes: leaves::panes(&items, &rects, n),
+        tab_bars: leaves::tab_bars(&items, &rects, n),
+        tabs: leaves::tabs(&items, &rects, n),
+        split_children: branches::split_children(&items, &rects, n),
+        split_handles: branches::split_handles(&items, &rects, n),
+        focus_order: orders::focus_order(&items, &rects, n),
+        paint_order: orders::paint_order(&items, &rects, n),
     }
 }

@@ -1,34 +1,15 @@
-// An entry of the stream as an entry of a list.
-ghost use Rattle.std.specs.Prelude.{◌≡◌, ◌&&◌, ltb};
+// A row of the stream, read as an entry of a list.
+ghost use Rattle.std.specs.Prelude.{◌≡◌};
+ghost use Rattle.rules.specs.Frame.{paint_of};
 ghost use Rattle.streaming.specs.Stream as Streams;
 ghost use Rattle.items.specs.Lists as Lists;
 
-use crate::Painted;
 use rules::frame::{
     FrameItemId, PaneFrame, Rect, SplitChildFrame, SplitHandleFrame, TabBarFrame, TabFrame,
 };
 use rules::model::TileId;
 use streaming::stream;
-
-// Whether an entry is wanted and there is room for it.
-pub fn takes(wanted: bool, len: usize, most: usize) -> bool
-    ensures { result ≡ (wanted && ltb len most) }
-{
-    if wanted {
-        return len < most;
-    }
-    false
-}
-
-// Whether an entry of a kind is painted: the focus order and a split's children are not.
-pub fn is_painted(kind: u64) -> bool
-    ensures { result ≡ Lists.painted kind }
-{
-    if kind == stream::FOCUS {
-        return false;
-    }
-    kind != stream::SPLIT_CHILD
-}
+use streaming::stream::Entry;
 
 pub fn rect_of(q: [f64; 4]) -> Rect
     ensures { result ≡ Streams.rect_from q }
@@ -44,25 +25,20 @@ pub fn rect_of(q: [f64; 4]) -> Rect
 pub fn pane_of(row: [u64; 5], q: [f64; 4]) -> PaneFrame
     ensures { result ≡ Lists.pane_from row q }
 {
-    let tile = TileId { slot: row[1] };
-    let rect = rect_of(q);
     PaneFrame {
         pane: row[2],
-        tile,
-        rect,
+        tile: TileId { slot: row[1] },
+        rect: rect_of(q),
     }
 }
 
 pub fn bar_of(row: [u64; 5], q: [f64; 4]) -> TabBarFrame
     ensures { result ≡ Lists.bar_frame_from row q }
 {
-    let group = TileId { slot: row[1] };
-    let rect = rect_of(q);
-    let placement = columns::modes::bar_of(row[4]);
     TabBarFrame {
-        group,
-        rect,
-        placement,
+        group: TileId { slot: row[1] },
+        rect: rect_of(q),
+        placement: columns::modes::bar_of(row[4]),
         active_pane: row[2],
     }
 }
@@ -70,12 +46,10 @@ pub fn bar_of(row: [u64; 5], q: [f64; 4]) -> TabBarFrame
 pub fn tab_of(row: [u64; 5], q: [f64; 4]) -> TabFrame
     ensures { result ≡ Lists.tab_from row q }
 {
-    let group = TileId { slot: row[1] };
-    let rect = rect_of(q);
     TabFrame {
-        group,
+        group: TileId { slot: row[1] },
         pane: row[2],
-        rect,
+        rect: rect_of(q),
         index: row[3] as usize,
         active: row[4] != 0,
     }
@@ -84,57 +58,51 @@ pub fn tab_of(row: [u64; 5], q: [f64; 4]) -> TabFrame
 pub fn child_of(row: [u64; 5], q: [f64; 4]) -> SplitChildFrame
     ensures { result ≡ Lists.child_from row q }
 {
-    let split = TileId { slot: row[1] };
-    let child = TileId { slot: row[2] };
-    let rect = rect_of(q);
     SplitChildFrame {
-        split,
-        child,
+        split: TileId { slot: row[1] },
+        child: TileId { slot: row[2] },
         index: row[3] as usize,
-        rect,
+        rect: rect_of(q),
     }
 }
 
 pub fn handle_of(row: [u64; 5], q: [f64; 4]) -> SplitHandleFrame
     ensures { result ≡ Lists.handle_from row q }
 {
-    let split = TileId { slot: row[1] };
-    let rect = rect_of(q);
-    let axis = columns::modes::axis_of(row[4]);
     SplitHandleFrame {
-        split,
+        split: TileId { slot: row[1] },
         handle: row[3] as usize,
-        axis,
-        rect,
+        axis: columns::modes::axis_of(row[4]),
+        rect: rect_of(q),
     }
 }
 
-fn item_of(row: [u64; 5]) -> FrameItemId
-    ensures { result ≡ Lists.painted_from row }
+// A row and its rectangle, read as the entry that was pushed. A kind past the last is a handle.
+pub fn entry_of(row: [u64; 5], q: [f64; 4]) -> Entry
+    ensures { Streams.item_of result ≡ Streams.item_from row q }
 {
-    let tile = TileId { slot: row[1] };
-    let kind = row[0];
-    if kind == stream::PANE {
-        return FrameItemId::Pane(row[2]);
-    }
-    if kind == stream::TAB_BAR {
-        return FrameItemId::TabBar(tile);
-    }
-    if kind == stream::TAB {
-        return FrameItemId::Tab {
-            group: tile,
-            pane: row[2],
-        };
-    }
-    FrameItemId::SplitHandle {
-        split: tile,
-        handle: row[3] as usize,
+    match row[0] {
+        stream::FOCUS => Entry::Focus(row[2]),
+        stream::PANE => Entry::Pane(pane_of(row, q)),
+        stream::TAB_BAR => Entry::TabBar(bar_of(row, q)),
+        stream::TAB => Entry::Tab(tab_of(row, q)),
+        stream::SPLIT_CHILD => Entry::SplitChild(child_of(row, q)),
+        _ => Entry::SplitHandle(handle_of(row, q)),
     }
 }
 
-pub fn painted_of(row: [u64; 5]) -> Painted
-    ensures { result.item ≡ Lists.painted_from row }
+// What the paint order names: each entry but a pane of the focus order and a split's child.
+pub fn painted_of(e: Entry) -> Option<FrameItemId>
+    ensures { Lists.taken result ≡ paint_of (Streams.item_of e) }
 {
-    let item = item_of(row);
-    Painted { item }
+    match e {
+        Entry::Focus(_) | Entry::SplitChild(_) => None,
+        Entry::Pane(f) => Some(FrameItemId::Pane(f.pane)),
+        Entry::TabBar(f) => Some(FrameItemId::TabBar(f.group)),
+        Entry::Tab(TabFrame { group, pane, .. }) => Some(FrameItemId::Tab { group, pane }),
+        Entry::SplitHandle(f) => Some(FrameItemId::SplitHandle {
+            split: f.split,
+            handle: f.handle,
+        }),
+    }
 }

@@ -9,8 +9,9 @@ ghost use Rattle.laying.specs.Grid.{Grid};
 
 use columns::{modes, slots};
 use placing::splits;
-use rules::frame::{LayoutInput, Rect};
-use rules::model::Axis;
+use rules::frame::{LayoutInput, PaneFrame, Rect, SplitChildFrame, SplitHandleFrame};
+use rules::model::{Axis, TileId};
+use streaming::stream::Entry;
 use streaming::{stream, tabs};
 
 // A pane that stands by itself.
@@ -24,8 +25,13 @@ fn layout_pane(
 ) -> usize
     ensures { Streams.stream items.new rects.new result ≡ Streams.push_item (Rule.a_pane pane (tile id) rect) (Streams.push_item (Rule.focus_item pane) (Streams.stream items.old rects.old n)) }
 {
-    let m = stream::push_focus(items, rects, n, pane);
-    stream::push_pane(items, rects, m, id, pane, rect)
+    let m = stream::push_entry(items, rects, n, Entry::Focus(pane));
+    let shown = PaneFrame {
+        pane,
+        tile: TileId { slot: id },
+        rect,
+    };
+    stream::push_entry(items, rects, m, Entry::Pane(shown))
 }
 
 // The handle after a child, where it is not the last.
@@ -41,13 +47,20 @@ fn handle_after(
 ) -> usize
     ensures { Streams.stream items.new rects.new result ≡ Streams.push_all (Streams.handle_if more (tile id) index axis rect) (Streams.stream items.old rects.old n) }
 {
-    if more {
-        return stream::push_handle(items, rects, n, id, index, axis, rect);
+    if !more {
+        return n;
     }
-    n
+    let shown = SplitHandleFrame {
+        split: TileId { slot: id },
+        handle: index,
+        axis,
+        rect,
+    };
+    stream::push_entry(items, rects, n, Entry::SplitHandle(shown))
 }
 
 // layout_tile
+// Kept: the four columns are four parameters, as C lends them to `layout_columns`. In a struct of them each clause would name the struct four times.
 #[cycle(layout_split_layout_tile)]
 pub fn layout_tile(
     heads: &[[u64; 8]; 64],
@@ -73,30 +86,24 @@ pub fn layout_tile(
     }
     let i = id as usize;
     let head = heads[i];
-    let kind = head[0];
-    if kind == 0 {
-        return n;
+    match head[0] {
+        0 => n,
+        1 => layout_pane(items, rects, n, id, head[2], rect),
+        2 => tabs::layout_tabs(items, rects, n, id, head, ids[i], rect, input),
+        _ => layout_split(
+            heads,
+            ids,
+            shares,
+            minima,
+            items,
+            rects,
+            n,
+            id,
+            rect,
+            input,
+            depth - 1,
+        ),
     }
-    if kind == 1 {
-        return layout_pane(items, rects, n, id, head[2], rect);
-    }
-    if kind == 2 {
-        let panes = ids[i];
-        return tabs::layout_tabs(items, rects, n, id, head, panes, rect, input);
-    }
-    layout_split(
-        heads,
-        ids,
-        shares,
-        minima,
-        items,
-        rects,
-        n,
-        id,
-        rect,
-        input,
-        depth - 1,
-    )
 }
 
 // layout_split
@@ -114,12 +121,14 @@ fn layout_split(
     input: LayoutInput,
     depth: u64,
 ) -> usize
-    requires { Grid heads.now ids.now shares.now minima.now × (id < 64) }
+    requires grid { Grid heads.now ids.now shares.now minima.now }
+    requires within { id < 64 }
     ensures { Streams.stream items.new rects.new result ≡ Streams.push_all (Rule.layout_split (Rule.layout_tile depth (nodes_from heads.now ids.now shares.now minima.now) input) (tile id) (axis_from (get_or (get_or heads.now id []) 1 0)) (map tile (take (get_or (get_or heads.now id []) 4 0) (get_or ids.now id []))) (take (get_or (get_or heads.now id []) 5 0) (get_or shares.now id [])) (take (get_or (get_or heads.now id []) 6 0) (get_or minima.now id [])) rect input) (Streams.stream items.old rects.old n) }
 {
     let i = id as usize;
     let head = heads[i];
     let children = ids[i];
+    // Kept: without this call `layout_split-loop-j-preserved` doesn't close, since nothing says how long a row of a lent array is.
     slots::full(children);
     let axis = modes::axis_of(head[1]);
     let lengths = splits::split_lengths(head, shares[i], minima[i], axis, rect, input);
@@ -127,12 +136,17 @@ fn layout_split(
     let handle = input.split_handle_thickness;
     let mut at = splits::along_start(axis, rect);
     let mut m = n;
-    let mut j = 0usize;
-    while j < count {
+    for j in 0..count {
         let child = children[j];
         let length = lists::get(lengths, j, 0.0);
         let room = splits::along_rect(axis, rect, at, length);
-        m = stream::push_child(items, rects, m, id, child, j, room);
+        let shown = SplitChildFrame {
+            split: TileId { slot: id },
+            child: TileId { slot: child },
+            index: j,
+            rect: room,
+        };
+        m = stream::push_entry(items, rects, m, Entry::SplitChild(shown));
         m = layout_tile(
             heads, ids, shares, minima, items, rects, m, child, room, input, depth,
         );
@@ -140,7 +154,6 @@ fn layout_split(
         let bar = splits::along_rect(axis, rect, edge, handle);
         m = handle_after(items, rects, m, j + 1 < count, id, j, axis, bar);
         at = edge + handle;
-        j += 1;
     }
     m
 }

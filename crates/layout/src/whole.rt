@@ -1,5 +1,5 @@
 // The whole of a layout over lent arrays: the Rust's layout.
-ghost use Rattle.std.specs.Prelude.{◌≡◌, Bool, length};
+ghost use Rattle.std.specs.Prelude.{◌≡◌, Bool};
 ghost use Rattle.rules.specs.Tree.{view};
 ghost use Rattle.rules.specs.Sound.{sound};
 ghost use Rattle.rules.specs.Frame.{layout_items};
@@ -15,24 +15,6 @@ use rules::frame::LayoutInput;
 use rules::model::TileTree;
 use rules::refusal::{Answer, Refusal};
 
-// The length of the arrays that are lent, which only one by value tells.
-fn item_places(items: [[u64; 5]; 2304])
-    ensures { length items ≡ 2304 }
-{}
-
-fn rect_places(rects: [[f64; 4]; 2304])
-    ensures { length rects ≡ 2304 }
-{}
-
-fn measured(items: &[[u64; 5]; 2304], rects: &[[f64; 4]; 2304])
-    ensures { (length items.now ≡ 2304) × (length rects.now ≡ 2304) }
-{
-    let a = *items;
-    item_places(a);
-    let b = *rects;
-    rect_places(b);
-}
-
 // The walk, from the root of a sound arena.
 fn place(
     root: u64,
@@ -44,13 +26,23 @@ fn place(
     items: &mut [[u64; 5]; 2304],
     rects: &mut [[f64; 4]; 2304],
 ) -> usize
-    requires { Plain heads.now ids.now shares.now minima.now × (sound (arena_from root 0 heads.now ids.now shares.now minima.now) ≡ Bool.true) }
+    requires plain { Plain heads.now ids.now shares.now minima.now }
+    requires sound { sound (arena_from root 0 heads.now ids.now shares.now minima.now) ≡ Bool.true }
     ensures { Streams.stream items.new rects.new result ≡ Streams.push_all (layout_items (arena_from root 0 heads.now ids.now shares.now minima.now) input) (Streams.stream items.old rects.old 0) }
 {
     settling::lone::root_row(ids, root);
-    let bounds = input.bounds;
     tiles::layout_tile(
-        heads, ids, shares, minima, items, rects, 0, root, bounds, input, 64,
+        heads,
+        ids,
+        shares,
+        minima,
+        items,
+        rects,
+        0,
+        root,
+        input.bounds,
+        input,
+        64,
     )
 }
 
@@ -86,7 +78,6 @@ pub fn layout_columns(
     if !input::input_ok(input) {
         return refused(revision, Refusal::BadInput);
     }
-    measured(items, rects);
     let plain = input::plus_input(input);
     let len = place(root, plain, heads, ids, shares, minima, items, rects);
     LaidOut {
@@ -105,15 +96,20 @@ pub fn layout_into(
 ) -> LaidOut
     ensures { LaysOut (view t) input items.old rects.old items.new rects.new result }
 {
-    let slots = t.slots;
-    columns::slots::sized(slots);
-    let top = t.root;
     let mut heads = [[0u64; 8]; 64];
     let mut ids = [[0u64; 16]; 64];
     let mut shares = [[0.0f64; 16]; 64];
     let mut minima = [[0.0f64; 16]; 64];
-    columns::unpack::unpack(slots, &mut heads, &mut ids, &mut shares, &mut minima);
+    columns::unpack::unpack(t.slots, &mut heads, &mut ids, &mut shares, &mut minima);
     layout_columns(
-        top.slot, t.revision, input, &heads, &ids, &shares, &minima, items, rects,
+        t.root.slot,
+        t.revision,
+        input,
+        &heads,
+        &ids,
+        &shares,
+        &minima,
+        items,
+        rects,
     )
 }

@@ -1,13 +1,9 @@
--- Laws of an input's tests, and of a split's lists: they are as long as it has children. Assumes nothing.
+-- Laws of an input's tests. Assumes nothing.
 use mathlib.Core.Path.{◌≡◌, sym, ◌∙◌}
 use mathlib.Core.Bool.{Bool, true, false, ◌&&◌}
-
--- ---- tests and numbers
 
 pub and-on : {a b : Bool} → a ≡ true → b ≡ (a && b)
 and-on {b = b} t = λ i. sym t i && b
 
 pub and-off : {a : Bool} → a ≡ false → (b : Bool) → a ≡ (a && b)
 and-off t b = t ∙ (λ i. sym t i && b)
-
--- ---- a split's lists are as long as it has children

@@ -12,6 +12,7 @@ fn coordinate_ok(x: f64) -> bool
 }
 
 // From 0 to 2^20.
+// Kept: beside `coordinate_ok`. Each is one line; one test of both bounds would be called eight times with the bound that the two names say.
 fn thickness_ok(x: f64) -> bool
     ensures { result ≡ Rule.thickness_ok x }
 {
@@ -22,32 +23,29 @@ fn thickness_ok(x: f64) -> bool
 fn bounds_ok(r: Rect) -> bool
     ensures { result ≡ Rule.bounds_ok r }
 {
-    let x0 = coordinate_ok(r.x0);
-    let y0 = coordinate_ok(r.y0);
-    let x1 = coordinate_ok(r.x1);
-    let y1 = coordinate_ok(r.y1);
-    let wide = r.x0 <= r.x1;
-    let high = r.y0 <= r.y1;
-    x0 & y0 & x1 & y1 & wide & high
+    coordinate_ok(r.x0)
+        && coordinate_ok(r.y0)
+        && coordinate_ok(r.x1)
+        && coordinate_ok(r.y1)
+        && r.x0 <= r.x1
+        && r.y0 <= r.y1
 }
 
 fn size_ok(s: Size) -> bool
     ensures { result ≡ Rule.size_ok s }
 {
-    let width = thickness_ok(s.width);
-    let height = thickness_ok(s.height);
-    width & height
+    thickness_ok(s.width) && thickness_ok(s.height)
 }
 
 // Whether an input is within document 01's limits.
+#[tactic(auto, unfolding(rules::specs::Frame::input_ok))]
 pub fn input_ok(i: LayoutInput) -> bool
     ensures { result ≡ Rule.input_ok i }
 {
-    let bounds = bounds_ok(i.bounds);
-    let bar = thickness_ok(i.tab_bar_thickness);
-    let handle = thickness_ok(i.split_handle_thickness);
-    let least = size_ok(i.min_pane_size);
-    bounds & bar & handle & least
+    bounds_ok(i.bounds)
+        && thickness_ok(i.tab_bar_thickness)
+        && thickness_ok(i.split_handle_thickness)
+        && size_ok(i.min_pane_size)
 }
 
 fn plus_rect(r: Rect) -> Rect
@@ -71,17 +69,14 @@ fn plus_size(s: Size) -> Size
 }
 
 // Minus zero read as zero, everywhere.
+#[tactic(auto, unfolding(rules::specs::Frame::plus_input))]
 pub fn plus_input(i: LayoutInput) -> LayoutInput
     ensures { result ≡ Rule.plus_input i }
 {
-    let bounds = plus_rect(i.bounds);
-    let bar = number::plus_zero(i.tab_bar_thickness);
-    let handle = number::plus_zero(i.split_handle_thickness);
-    let least = plus_size(i.min_pane_size);
     LayoutInput {
-        bounds,
-        tab_bar_thickness: bar,
-        split_handle_thickness: handle,
-        min_pane_size: least,
+        bounds: plus_rect(i.bounds),
+        tab_bar_thickness: number::plus_zero(i.tab_bar_thickness),
+        split_handle_thickness: number::plus_zero(i.split_handle_thickness),
+        min_pane_size: plus_size(i.min_pane_size),
     }
 }

@@ -37,31 +37,15 @@ pub fn along_start(axis: Axis, rect: Rect) -> f64
     }
 }
 
-// How many handles stand between the children.
-fn gaps(count: usize) -> usize
-    requires { count ≤ 16 }
-    ensures { (result ≡ count - 1) × (result ≤ 16) }
-{
-    if count == 0 {
-        return 0;
-    }
-    count - 1
-}
-
-// The Rust's child_total: what the handles leave.
+// The Rust's child_total: what the handles leave, of which one stands between each two children.
 fn child_total(axis: Axis, count: usize, rect: Rect, input: LayoutInput) -> f64
     requires { count ≤ 16 }
     ensures { result ≡ Rule.child_total axis count rect input }
 {
     let major = bars::rects::major_length(rect, axis);
-    let handle_total = input.split_handle_thickness * number::whole(gaps(count));
+    let handle_total = input.split_handle_thickness * number::whole(count.saturating_sub(1));
     number::larger(major - handle_total, 0.0)
 }
-
-fn measured(l: Reals)
-    requires { l.len ≤ 16 }
-    ensures { length (reals l) ≡ l.len }
-{}
 
 // The solved lengths of a split's children; its head, shares and minima are these.
 pub fn split_lengths(
@@ -88,8 +72,5 @@ pub fn split_lengths(
     };
     let default_min_major = bars::rects::major_size(input.min_pane_size, axis);
     let least = util::minima::split_min_major(count, own, default_min_major);
-    let solved = solver::solve_lengths_with_min(total, by, least);
-    let lengths = solved.lengths;
-    measured(lengths);
-    lengths
+    solver::solve_lengths_with_min(total, by, least).lengths
 }

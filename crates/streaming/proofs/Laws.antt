@@ -17,7 +17,7 @@ use Rattle.rules.specs.Frame.{Item, focus_item, focus_items, a_pane, a_bar, a_ta
 use Rattle.rules.specs.declared.model.TileId.{TileId}
 use Rattle.rules.specs.declared.model.Axis.{Axis}
 use Rattle.rules.specs.declared.model.TabBarPlacement.{TabBarPlacement}
-use Rattle.rules.specs.declared.model.TabBarPlacement.TheVariants.{Hidden}
+use Rattle.rules.specs.declared.model.TabBarPlacement.TheVariants.{Hidden, Top, Bottom, Left, Right}
 use Rattle.rules.specs.declared.frame.Rect.{Rect}
 use Rattle.rules.specs.declared.frame.LayoutInput.{LayoutInput}
 use Rattle.lists.specs.Places.{length-tabulate, tabulate-at}
@@ -52,41 +52,35 @@ left-done l s t e w = sym (push-none s) ∙ sym (ap (λ (k : List Item). push_al
 
 -- ---- the focus order
 
-module _ (panes : List ℕ) (count : ℕ) (few : count ≤ length panes) where
-  abbrev ps : List ℕ
-  ps = take count panes
-
+module _ (ps : List ℕ) where
   abbrev pub FocusLeft : ℕ → List Item
-  FocusLeft j = focus_items (drop j (take count panes))
+  FocusLeft j = focus_items (drop j ps)
 
-  long : length (take count panes) ≡ count
-  long = length-take-le count panes few
-
-  pub focus-more : (j : ℕ) (s s' t : Stream) → j < count → s' ≡ push_item (focus_item (get_or panes j 0)) s → push_all (FocusLeft j) s ≡ t → push_all (FocusLeft (j + 1)) s' ≡ t
+  pub focus-more : (j : ℕ) (s s' t : Stream) → j < length ps → s' ≡ push_item (focus_item (get_or ps j 0)) s → push_all (FocusLeft j) s ≡ t → push_all (FocusLeft (j + 1)) s' ≡ t
   focus-more j s s' t h p w =
-      left-more (focus_item (get_or panes j 0) ∷ []) (FocusLeft j) (FocusLeft (j + 1)) s s' t
-      (ap focus_items (drop-cons ps j 0 (omega (arith, long))) ∙ (λ z. focus_item (get_or-take count panes j 0 h z) ∷ focus_items (drop (sym (add-one j) z) ps)))
-      (p ∙ sym (push-one (focus_item (get_or panes j 0)) s)) w
+      left-more (focus_item (get_or ps j 0) ∷ []) (FocusLeft j) (FocusLeft (j + 1)) s s' t
+      (ap focus_items (drop-cons ps j 0 h) ∙ (λ z. focus_item (get_or ps j 0) ∷ focus_items (drop (sym (add-one j) z) ps)))
+      (p ∙ sym (push-one (focus_item (get_or ps j 0)) s)) w
 
-  pub focus-done : (j : ℕ) (s t : Stream) → count ≤ j → push_all (FocusLeft j) s ≡ t → s ≡ t
-  focus-done j s t h w = let p : length ps ≤ j = omega (arith, long) in left-done (FocusLeft j) s t (ap focus_items (drop_of_length-le ps p)) w
+  pub focus-done : (j : ℕ) (s t : Stream) → length ps ≤ j → push_all (FocusLeft j) s ≡ t → s ≡ t
+  focus-done j s t h w = left-done (FocusLeft j) s t (ap focus_items (drop_of_length-le ps h)) w
 
 -- ---- the tabs of a bar
 
-module _ (g : TileId) (placement : TabBarPlacement) (bar : Rect) (active : ℕ) (panes : List ℕ) (count : ℕ) (few : count ≤ length panes) where
+module _ (g : TileId) (placement : TabBarPlacement) (bar : Rect) (active : ℕ) (ps : List ℕ) where
   abbrev rs : List Rect
-  rs = tab_rects bar placement count
+  rs = tab_rects bar placement (length ps)
 
   abbrev pub TabsLeft : ℕ → List Item
-  TabsLeft j = tabs_from g active j (drop j (take count panes)) (drop j (tab_rects bar placement count))
+  TabsLeft j = tabs_from g active j (drop j ps) (drop j (tab_rects bar placement (length ps)))
 
-  rs-long : length rs ≡ count
+  rs-long : length rs ≡ length ps
   unfolding tab_rects
-  rs-long = length-tabulate (tab_rect placement bar count) count
+  rs-long = length-tabulate (tab_rect placement bar (length ps)) (length ps)
 
-  rs-at : (j : ℕ) → j < count → get_or rs j no_rect ≡ tab_rect placement bar count j
+  rs-at : (j : ℕ) → j < length ps → get_or rs j no_rect ≡ tab_rect placement bar (length ps) j
   unfolding tab_rects
-  rs-at j h = tabulate-at (tab_rect placement bar count) count j no_rect h
+  rs-at j h = tabulate-at (tab_rect placement bar (length ps)) (length ps) j no_rect h
 
   tabs-cons : (j p : ℕ) (qs : List ℕ) (r : Rect) (us : List Rect) → tabs_from g active j (p ∷ qs) (r ∷ us) ≡ a_tab g p r j (eqb j active) ∷ tabs_from g active (suc j) qs us
   unfolding tabs_from
@@ -96,19 +90,17 @@ module _ (g : TileId) (placement : TabBarPlacement) (bar : Rect) (active : ℕ) 
   unfolding tabs_from
   tabs-nil j us = refl
 
-  pub tabs-more : (j : ℕ) (r : Rect) (s s' t : Stream) → j < count → r ≡ tab_rect placement bar count j → s' ≡ push_item (a_tab g (get_or panes j 0) r j (eqb j active)) s
+  pub tabs-more : (j : ℕ) (r : Rect) (s s' t : Stream) → j < length ps → r ≡ tab_rect placement bar (length ps) j → s' ≡ push_item (a_tab g (get_or ps j 0) r j (eqb j active)) s
       → push_all (TabsLeft j) s ≡ t → push_all (TabsLeft (j + 1)) s' ≡ t
   tabs-more j r s s' t h e p w =
-      left-more (a_tab g (get_or panes j 0) r j (eqb j active) ∷ []) (TabsLeft j) (TabsLeft (j + 1)) s s' t
-      ((λ z. tabs_from g active j (drop-cons (ps panes count few) j 0 (omega (arith, long panes count few)) z) (drop-cons rs j no_rect (omega (arith, rs-long)) z))
-      ∙ tabs-cons j (get_or (ps panes count few) j 0) (drop (suc j) (ps panes count few)) (get_or rs j no_rect) (drop (suc j) rs)
-      ∙ (λ z. a_tab g (get_or-take count panes j 0 h z) ((rs-at j h ∙ sym e) z) j (eqb j active) ∷ tabs_from g active (sym (add-one j) z) (drop (sym (add-one j) z) (ps panes count few)) (drop (sym (add-one j) z) rs)))
-      (p ∙ sym (push-one (a_tab g (get_or panes j 0) r j (eqb j active)) s)) w
+      left-more (a_tab g (get_or ps j 0) r j (eqb j active) ∷ []) (TabsLeft j) (TabsLeft (j + 1)) s s' t
+      ((λ z. tabs_from g active j (drop-cons ps j 0 h z) (drop-cons rs j no_rect (omega (arith, rs-long)) z))
+      ∙ tabs-cons j (get_or ps j 0) (drop (suc j) ps) (get_or rs j no_rect) (drop (suc j) rs)
+      ∙ (λ z. a_tab g (get_or ps j 0) ((rs-at j h ∙ sym e) z) j (eqb j active) ∷ tabs_from g active (sym (add-one j) z) (drop (sym (add-one j) z) ps) (drop (sym (add-one j) z) rs)))
+      (p ∙ sym (push-one (a_tab g (get_or ps j 0) r j (eqb j active)) s)) w
 
-  pub tabs-done : (j : ℕ) (s t : Stream) → count ≤ j → push_all (TabsLeft j) s ≡ t → s ≡ t
-  tabs-done j s t h w =
-      let p : length (ps panes count few) ≤ j = omega (arith, long panes count few) in
-      left-done (TabsLeft j) s t (ap (λ (qs : List ℕ). tabs_from g active j qs (drop j rs)) (drop_of_length-le (ps panes count few) p) ∙ tabs-nil j (drop j rs)) w
+  pub tabs-done : (j : ℕ) (s t : Stream) → length ps ≤ j → push_all (TabsLeft j) s ≡ t → s ≡ t
+  tabs-done j s t h w = left-done (TabsLeft j) s t (ap (λ (qs : List ℕ). tabs_from g active j qs (drop j rs)) (drop_of_length-le ps h) ∙ tabs-nil j (drop j rs)) w
 
 -- ---- the children of a split
 
@@ -192,16 +184,21 @@ handle-no b g i a r s e = sym (push-none s) ∙ ap (λ (x : Bool). push_all (han
 
 -- ---- a group
 
-module _ (g : TileId) (b : TabBarPlacement) (bar : Rect) (active : ℕ) (panes : List ℕ) (count : ℕ) where
-  pub bar-none : (h : Bool) (s : Stream) → h ≡ true → s ≡ push_all (bar_items h g b bar active (take count panes)) s
-  bar-none h s e = sym (push-none s) ∙ ap (λ (x : Bool). push_all (bar_items x g b bar active (take count panes)) s) (sym e)
+pub not-hidden : (b : TabBarPlacement) → (b ≡ Hidden → ⊥) → same_placement b Hidden ≡ false
+not-hidden Hidden h = absurd (h refl)
+not-hidden Top h = refl
+not-hidden Bottom h = refl
+not-hidden Left h = refl
+not-hidden Right h = refl
 
-  pub bar-some : (h : Bool) (s s₁ s₂ : Stream) → h ≡ false → count ≤ length panes → active < count → s₁ ≡ push_item (a_bar g bar b (get_or panes active 0)) s
-      → s₂ ≡ push_all (tabs_from g active 0 (take count panes) (tab_rects bar b count)) s₁ → s₂ ≡ push_all (bar_items h g b bar active (take count panes)) s
-  bar-some h s s₁ s₂ e few lt p q =
-      let ps = take count panes in
-      q ∙ (λ z. push_all (tabs_from g active 0 ps (tab_rects bar b (sym (length-take-le count panes few) z))) (p z))
-      ∙ ap (λ (x : ℕ). push_all (tabs_from g active 0 ps (tab_rects bar b (length ps))) (push_item (a_bar g bar b x) s)) (sym (get_or-take count panes active 0 lt))
+module _ (g : TileId) (b : TabBarPlacement) (bar : Rect) (active : ℕ) (ps : List ℕ) where
+  pub bar-none : (h : Bool) (s : Stream) → h ≡ true → s ≡ push_all (bar_items h g b bar active ps) s
+  bar-none h s e = sym (push-none s) ∙ ap (λ (x : Bool). push_all (bar_items x g b bar active ps) s) (sym e)
+
+  pub bar-some : (h : Bool) (s s₁ s₂ : Stream) → h ≡ false → s₁ ≡ push_item (a_bar g bar b (get_or ps active 0)) s
+      → s₂ ≡ push_all (tabs_from g active 0 ps (tab_rects bar b (length ps))) s₁ → s₂ ≡ push_all (bar_items h g b bar active ps) s
+  bar-some h s s₁ s₂ e p q =
+      q ∙ (λ z. push_all (tabs_from g active 0 ps (tab_rects bar b (length ps))) (p z))
       ∙ sym (push-cons (a_bar g bar b (get_or ps active 0)) (tabs_from g active 0 ps (tab_rects bar b (length ps))) s)
       ∙ ap (λ (x : Bool). push_all (bar_items x g b bar active ps) s) (sym e)
 

@@ -9,6 +9,18 @@ use Rattle.rules.specs.declared.model.TileId.{TileId}
 use Rattle.rules.specs.declared.model.Axis.{Axis}
 use Rattle.rules.specs.declared.frame.Rect.{Rect}
 use Rattle.columns.specs.Columns.{bar_from, axis_from}
+use Rattle.streaming.specs.declared.stream.Entry.{Entry}
+use Rattle.streaming.specs.declared.stream.Entry.TheVariants.{Focus, Pane, TabBar, Tab, SplitChild, SplitHandle}
+
+-- ---- an entry as the rule's item
+
+abbrev pub item_of : Entry → Item
+item_of (Focus p) = focus_item p
+item_of (Pane f) = pane_item f
+item_of (TabBar f) = bar_item f
+item_of (Tab f) = tab_item f
+item_of (SplitChild f) = child_item f
+item_of (SplitHandle f) = handle_item f
 
 -- ---- an item as numbers: its kind, its tile, the pane (or a split's child), the index, and the mode (a bar's placement, a tab's being active, a handle's axis)
 

@@ -1,12 +1,10 @@
 // The stream of items: the Rust's pushes to a LayoutFrame's lists. 2,304 places always suffice for a sound tree.
 ghost use Rattle.std.specs.Prelude.{◌≡◌};
-ghost use Rattle.rules.specs.Tree.{tile, axis_code};
-ghost use Rattle.rules.specs.Frame.{Item, a_pane, a_bar, a_tab, a_child, a_handle};
-ghost use Rattle.streaming.specs.Stream.{stream, sides, flag_code, push_row, push_item};
+ghost use Rattle.streaming.specs.Stream as Streams;
 
-use rules::frame::Rect;
-use rules::model::{Axis, TabBarPlacement};
+use rules::frame::{PaneFrame, Rect, SplitChildFrame, SplitHandleFrame, TabBarFrame, TabFrame};
 
+// Kept: C and the hosts read an entry's kind as a number in a row of five (tiling_c's `lay`; `LaysOut`, its clause `codes`).
 pub const FOCUS: u64 = 0;
 
 pub const PANE: u64 = 1;
@@ -19,7 +17,65 @@ pub const SPLIT_CHILD: u64 = 4;
 
 pub const SPLIT_HANDLE: u64 = 5;
 
-// One entry more; nothing where the stream is full.
+// What is pushed: an entry of one of a LayoutFrame's lists.
+#[derive(Clone, Copy)]
+pub enum Entry {
+    Focus(u64),
+    Pane(PaneFrame),
+    TabBar(TabBarFrame),
+    Tab(TabFrame),
+    SplitChild(SplitChildFrame),
+    SplitHandle(SplitHandleFrame),
+}
+
+// An entry as five numbers.
+pub fn code_of(e: Entry) -> [u64; 5]
+    ensures { result ≡ Streams.code_of (Streams.item_of e) }
+{
+    match e {
+        Entry::Focus(pane) => [FOCUS, 0, pane, 0, 0],
+        Entry::Pane(f) => [PANE, f.tile.slot, f.pane, 0, 0],
+        Entry::TabBar(f) => [
+            TAB_BAR,
+            f.group.slot,
+            f.active_pane,
+            0,
+            f.placement as u64,
+        ],
+        Entry::Tab(f) => [TAB, f.group.slot, f.pane, f.index as u64, f.active as u64],
+        Entry::SplitChild(f) => [SPLIT_CHILD, f.split.slot, f.child.slot, f.index as u64, 0],
+        Entry::SplitHandle(f) => [
+            SPLIT_HANDLE,
+            f.split.slot,
+            0,
+            f.handle as u64,
+            f.axis as u64,
+        ],
+    }
+}
+
+// An entry's rectangle; a pane of the focus order has none, and zeros stand for it.
+pub fn rect_of(e: Entry) -> Rect
+    ensures { result ≡ Streams.rect_of (Streams.item_of e) }
+{
+    match e {
+        Entry::Focus(_) => Rect {
+            x0: 0.0,
+            y0: 0.0,
+            x1: 0.0,
+            y1: 0.0,
+        },
+        Entry::Pane(f) => f.rect,
+        Entry::TabBar(f) => f.rect,
+        Entry::Tab(f) => f.rect,
+        Entry::SplitChild(f) => f.rect,
+        Entry::SplitHandle(f) => f.rect,
+    }
+}
+
+// One row more; nothing where the stream is full.
+// Kept: the two arrays and the length in use are three parameters here and in every caller. C lends the arrays one by one (`tiling_layout_into`), and a
+// struct of the two `&mut` leaves a caller's goal `returns` open: the fields' final values are not tied to what was lent.
 pub fn push(
     items: &mut [[u64; 5]; 2304],
     rects: &mut [[f64; 4]; 2304],
@@ -27,7 +83,7 @@ pub fn push(
     row: [u64; 5],
     rect: Rect,
 ) -> usize
-    ensures { stream items.new rects.new result ≡ push_row row (sides rect) (stream items.old rects.old n) }
+    ensures { Streams.stream items.new rects.new result ≡ Streams.push_row row (Streams.sides rect) (Streams.stream items.old rects.old n) }
 {
     if n < 2304 {
         items[n] = row;
@@ -37,116 +93,14 @@ pub fn push(
     n
 }
 
-// `focus_order.push(pane)`
-pub fn push_focus(
+// One entry more, as the Rust's `focus_order.push(..)`, `panes.push(..)` and so on.
+pub fn push_entry(
     items: &mut [[u64; 5]; 2304],
     rects: &mut [[f64; 4]; 2304],
     n: usize,
-    pane: u64,
+    e: Entry,
 ) -> usize
-    ensures { stream items.new rects.new result ≡ push_item (Item.focus_item pane) (stream items.old rects.old n) }
+    ensures { Streams.stream items.new rects.new result ≡ Streams.push_item (Streams.item_of e) (Streams.stream items.old rects.old n) }
 {
-    let none = Rect {
-        x0: 0.0,
-        y0: 0.0,
-        x1: 0.0,
-        y1: 0.0,
-    };
-    push(items, rects, n, [FOCUS, 0, pane, 0, 0], none)
-}
-
-// `panes.push(..)`
-pub fn push_pane(
-    items: &mut [[u64; 5]; 2304],
-    rects: &mut [[f64; 4]; 2304],
-    n: usize,
-    id: u64,
-    pane: u64,
-    rect: Rect,
-) -> usize
-    ensures { stream items.new rects.new result ≡ push_item (a_pane pane (tile id) rect) (stream items.old rects.old n) }
-{
-    push(items, rects, n, [PANE, id, pane, 0, 0], rect)
-}
-
-// `tab_bars.push(..)`
-pub fn push_bar(
-    items: &mut [[u64; 5]; 2304],
-    rects: &mut [[f64; 4]; 2304],
-    n: usize,
-    id: u64,
-    rect: Rect,
-    placement: TabBarPlacement,
-    pane: u64,
-) -> usize
-    ensures { stream items.new rects.new result ≡ push_item (a_bar (tile id) rect placement pane) (stream items.old rects.old n) }
-{
-    let mode = columns::unpack::bar_code(placement);
-    push(items, rects, n, [TAB_BAR, id, pane, 0, mode], rect)
-}
-
-fn flag_code(yes: bool) -> u64
-    ensures { result ≡ flag_code yes }
-{
-    if yes { 1 } else { 0 }
-}
-
-// `tabs.push(..)`
-pub fn push_tab(
-    items: &mut [[u64; 5]; 2304],
-    rects: &mut [[f64; 4]; 2304],
-    n: usize,
-    id: u64,
-    pane: u64,
-    rect: Rect,
-    index: usize,
-    active: bool,
-) -> usize
-    ensures { stream items.new rects.new result ≡ push_item (a_tab (tile id) pane rect index active) (stream items.old rects.old n) }
-{
-    let mode = flag_code(active);
-    let at = index as u64;
-    push(items, rects, n, [TAB, id, pane, at, mode], rect)
-}
-
-// `split_children.push(..)`
-pub fn push_child(
-    items: &mut [[u64; 5]; 2304],
-    rects: &mut [[f64; 4]; 2304],
-    n: usize,
-    id: u64,
-    child: u64,
-    index: usize,
-    rect: Rect,
-) -> usize
-    ensures { stream items.new rects.new result ≡ push_item (a_child (tile id) (tile child) index rect) (stream items.old rects.old n) }
-{
-    let at = index as u64;
-    push(items, rects, n, [SPLIT_CHILD, id, child, at, 0], rect)
-}
-
-fn axis_code(axis: Axis) -> u64
-    ensures { result ≡ axis_code axis }
-{
-    match axis {
-        Axis::Horizontal => 0,
-        Axis::Vertical => 1,
-    }
-}
-
-// `split_handles.push(..)`
-pub fn push_handle(
-    items: &mut [[u64; 5]; 2304],
-    rects: &mut [[f64; 4]; 2304],
-    n: usize,
-    id: u64,
-    handle: usize,
-    axis: Axis,
-    rect: Rect,
-) -> usize
-    ensures { stream items.new rects.new result ≡ push_item (a_handle (tile id) handle axis rect) (stream items.old rects.old n) }
-{
-    let mode = axis_code(axis);
-    let at = handle as u64;
-    push(items, rects, n, [SPLIT_HANDLE, id, 0, at, mode], rect)
+    push(items, rects, n, code_of(e), rect_of(e))
 }

