@@ -121,11 +121,11 @@ pub fn of_answer(a: Answer) -> Told
     ensures { told_of result ≡ answer_of a }
 {
     match a {
-        Answer::Accepted => Told {
+        Ok(()) => Told {
             number: 0,
             first: 0,
             second: 0,
         },
-        Answer::Refused(e) => of_refusal(e),
+        Err(e) => of_refusal(e),
     }
 }

@@ -12,7 +12,7 @@ ghost use Rattle.docking.specs.Steps.{always, Does, Ready, Puts, Taken};
 use docking::{Changed, near};
 use nodes::{Beside, PaneLocation, Spares, find, slots, take, targets};
 use rules::model::{Axis, Placement, TileId};
-use rules::operation::{DockTarget, TabIndex};
+use rules::operation::DockTarget;
 use rules::refusal::Refusal;
 use tabbing::groups;
 use util::shares;
@@ -162,7 +162,7 @@ fn tab_into(
     room: Spares,
     pane: u64,
     group: TileId,
-    index: TabIndex,
+    index: Option<usize>,
     heads: &mut [[u64; 8]; 64],
     ids: &mut [[u64; 16]; 64],
     shares: &mut [[f64; 16]; 64],

@@ -6,7 +6,7 @@ use lib.ListN.{get_or}
 use lib.Ieee.{Float}
 use Rattle.rules.specs.Tree.{tile}
 use Rattle.rules.specs.declared.model.Placement.TheVariants.{After}
-use Rattle.rules.specs.declared.operation.TabIndex.TheVariants.{At}
+use Rattle.std.specs.Prelude.{Some}
 use Rattle.rules.specs.declared.operation.DockTarget.TheVariants.{TabInto}
 use Rattle.rules.specs.declared.operation.TileOp.TheVariants.{ReorderTab}
 use Rattle.coding.specs.Lent.{placement_from, index_from, target_by, op_by}
@@ -15,7 +15,7 @@ pub placement-other : (n : ℕ) → (n ≡ 0 → ⊥) → After ≡ placement_fr
 placement-other zero h = absurd (h refl)
 placement-other (suc n) h = refl
 
-pub index-other : (n i : ℕ) → (n ≡ 0 → ⊥) → At i ≡ index_from n i
+pub index-other : (n i : ℕ) → (n ≡ 0 → ⊥) → Some i ≡ index_from n i
 index-other zero i h = absurd (h refl)
 index-other (suc n) i h = refl
 

@@ -11,7 +11,6 @@ ghost use Rattle.nodes.specs.Find.{scan_pane, scan_parent};
 ghost use Rattle.nodes.specs.Parts.{location_of, holder_of};
 
 use crate::{Holder, PaneLocation};
-use lists::{Place, ids};
 use rules::model::{Ids, TileId};
 
 // A pane tile that shows the pane.
@@ -29,11 +28,8 @@ fn in_tabs(panes: Ids, pane: u64, group: TileId) -> Option<PaneLocation>
     requires { panes.len ≤ 16 }
     ensures { location_of result ≡ Rule.tabs_have (position (eqb pane) (ids_in panes)) group nowhere }
 {
-    let place = ids::position(panes, pane);
-    match place {
-        Place::At(index) => Some(PaneLocation::InTabs { group, index }),
-        Place::Nothing => None,
-    }
+    let index = lists::position(panes, pane)?;
+    Some(PaneLocation::InTabs { group, index })
 }
 
 // Where the pane stands in one row.
@@ -78,7 +74,7 @@ pub fn find_pane(heads: &[[u64; 8]; 64], ids: &[[u64; 16]; 64], pane: u64) -> Op
 }
 
 // The place of a tile among the children of one row.
-fn place_in(heads: &[[u64; 8]; 64], ids: &[[u64; 16]; 64], i: usize, target: u64) -> Place
+fn place_in(heads: &[[u64; 8]; 64], ids: &[[u64; 16]; 64], i: usize, target: u64) -> Option<usize>
     requires inside { i < 64 }
     requires whole { over_head (get_or heads.now i []) ≡ false }
     ensures { (ss ms : List Float) → place_of result ≡ position (same_tile (tile target)) (kids_of (node_from (get_or heads.now i []) (get_or ids.now i []) ss ms)) }
@@ -90,9 +86,9 @@ fn place_in(heads: &[[u64; 8]; 64], ids: &[[u64; 16]; 64], i: usize, target: u64
             at: row,
             len: h[4] as usize,
         };
-        return ids::position(children, target);
+        return lists::position(children, target);
     }
-    Place::Nothing
+    None
 }
 
 // find_parent
@@ -102,7 +98,7 @@ pub fn find_parent(heads: &[[u64; 8]; 64], ids: &[[u64; 16]; 64], target: TileId
 {
     for i in 0..64 {
         let place = place_in(heads, ids, i, target.slot);
-        if let Place::At(index) = place {
+        if let Some(index) = place {
             let split = TileId { slot: i as u64 };
             return Some(Holder { split, index });
         }

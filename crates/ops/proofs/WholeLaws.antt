@@ -15,7 +15,7 @@ use Rattle.rules.specs.Operations.{refused, unchanged, Applied, finish, apply_in
 use Rattle.rules.specs.declared.model.Slot.{Slot}
 use Rattle.rules.specs.declared.model.TileTree.{TileTree}
 use Rattle.rules.specs.declared.operation.TileOp.{TileOp}
-use Rattle.rules.specs.declared.refusal.Answer.TheVariants.{Refused}
+use Rattle.rules.specs.Refusals.{Refused}
 use Rattle.rules.specs.declared.refusal.Refusal.{Refusal}
 use Rattle.rules.specs.declared.refusal.Refusal.TheVariants.{NotSound}
 use Rattle.columns.specs.Columns.{nodes_from}
@@ -28,7 +28,7 @@ use Rattle.settling.proofs.PlainLaws.{plain_over, plain-long}
 use Rattle.repair.proofs.SoundLaws.{sound-whole}
 use Rattle.nodes.specs.Find.{find-scan, parent-scan}
 use Rattle.docking.specs.Trees.{sound-standing}
-use Rattle.docking.specs.Steps.{Fit, Ready, Makes, applied, answered, Comes}
+use Rattle.docking.specs.Steps.{Fit, Ready, Makes, applied, always, answered, Comes}
 use Rattle.docking.specs.declared.Applying.{Applying}
 use Rattle.docking.specs.declared.AppliedIn.{AppliedIn}
 use Rattle.docking.proofs.FinishLaws.{comes-answer, comes-given, comes-made}
@@ -115,6 +115,12 @@ module _ (t : TileTree) (op : TileOp) (a : Arena) (T : a ≡ view t) (d : Result
             (let k = ap (λ (y : Result (Maybe AppliedIn) Refusal). result_unwrap_or y None) (E.1 (ap sound T ∙ s) (ap (λ (y : Arena). apply_inner y op) T ∙ u)) in
             let z : ◌≡◌ {A = ℕ} 0 1 = cc in omega arith),
       )
+
+-- ---- a change
+
+-- a refusal handed on
+pub comes-on : (a : Arena) (x : Applied) (hs xs : List (List ℕ)) (ss ms : List (List Float)) (r : Result AppliedIn Refusal) (e : Refusal) → r ≡ Err e → x ≡ refused e a → Comes a x (always r) hs xs ss ms
+comes-on a x hs xs ss ms r e p q = subst (λ (z : Result AppliedIn Refusal). Comes a x (always z) hs xs ss ms) (sym p) q
 
 -- ---- a spare slot as a number
 

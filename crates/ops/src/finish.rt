@@ -18,8 +18,8 @@ pub fn answer_of(done: Result<Option<AppliedIn>, Refusal>) -> Answer
     ensures { result ≡ answered done }
 {
     match done {
-        Ok(_) => Answer::Accepted,
-        Err(e) => Answer::Refused(e),
+        Ok(_) => Ok(()),
+        Err(e) => Err(e),
     }
 }
 
@@ -52,12 +52,9 @@ pub fn change(
     let mut acts = [[0u64; 3]; 1];
     let spare = number_of(to.spare);
     let done = settle::settle(to.root, spare, heads, ids, shares, minima, &mut acts);
-    let answer = done.answer;
-    match answer {
-        Answer::Accepted => Ok(AppliedIn {
-            root: done.root,
-            revision: revision + 1,
-        }),
-        Answer::Refused(e) => Err(e),
-    }
+    done.answer?;
+    Ok(AppliedIn {
+        root: done.root,
+        revision: revision + 1,
+    })
 }

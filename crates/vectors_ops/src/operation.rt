@@ -2,7 +2,7 @@
 ghost use Rattle.std.specs.Prelude.{◌≤◌, length};
 
 use rules::model::{Placement, TileId};
-use rules::operation::{DockTarget, TabIndex, TileOp};
+use rules::operation::{DockTarget, TileOp};
 use wire::tree;
 
 // An operation, and the place after it.
@@ -26,10 +26,10 @@ fn placement(n: u64) -> Placement {
     }
 }
 
-fn index(given: u64, n: u64) -> TabIndex {
+fn index(given: u64, n: u64) -> Option<usize> {
     match given {
-        0 => TabIndex::End,
-        _ => TabIndex::At(n as usize),
+        0 => None,
+        _ => Some(n as usize),
     }
 }
 

@@ -3,7 +3,7 @@ use mathlib.Core.Path.{sym, ap, ◌∙◌}
 use Prim.Native.Nat.{ℕ}
 use lib.ListN.{get_or}
 use Rattle.rules.specs.Tree.{tile}
-use Rattle.rules.specs.declared.operation.TabIndex.{TabIndex}
+use Rattle.rules.specs.Operations.{TabIndex}
 use Rattle.rules.specs.declared.operation.DockTarget.TheVariants.{Split, TabInto}
 use Rattle.coding.specs.Lent.{target_by}
 use Rattle.coding.proofs.ReadLaws.{target-into}

@@ -12,10 +12,10 @@ loop-i-init c = λ ss ms ls lm. refl
 pub place_in-place-requires-clause-whole : goal.place_in-place-requires-clause-whole
 place_in-place-requires-clause-whole c = head-whole c.args.heads.now c.loop-i.i c.requires
 
-pub returns-in-At : goal.returns-in-At
-returns-in-At c =
+pub returns-in-Some : goal.returns-in-Some
+returns-in-Some c =
     let x = c.args in
-    rows-holds x.heads.now x.ids.now c.told-heads c.told-ids c.loop-i.i (omega arith) x.target (place_of c.place_in-place.result) c.place_in-place.ensures _ (sym (ap place_of c.in-At.is)) c.loop-i.invariant
+    rows-holds x.heads.now x.ids.now c.told-heads c.told-ids c.loop-i.i (omega arith) x.target (place_of c.place_in-place.result) c.place_in-place.ensures _ (sym (ap place_of c.in-Some.is)) c.loop-i.invariant
 
 pub loop-i-preserved : goal.loop-i-preserved
 loop-i-preserved c =

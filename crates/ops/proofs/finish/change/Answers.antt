@@ -8,6 +8,8 @@ use Rattle.rules.specs.Operations.{accepted, last-revision}
 use Rattle.docking.proofs.FinishLaws.{last-refused, change-taken, change-refused}
 use Rattle.columns.specs.Shown.{arena_from}
 use Rattle.columns.specs.RowLaws.{even-plain, plain-even}
+use Rattle.docking.proofs.TakenLaws.{exits}
+use Rattle.ops.proofs.WholeLaws.{comes-on}
 use Rattle.ops.proofs.finish.change.Goals as goal
 
 pub returns-then-revision-eq18446744073709551615 : goal.returns-then-revision-eq18446744073709551615
@@ -20,22 +22,22 @@ settle-done-requires c =
     let x = c.args in
     (even-plain x.heads.now x.ids.now x.shares.now x.minima.now c.requires, c.requires.whole)
 
-pub returns-in-Accepted : goal.returns-in-Accepted
-returns-in-Accepted c =
+pub returns : goal.returns
+returns c =
     let x = c.args in
     let S = c.settle-done.ensures in
-    let yes = c.in-Accepted.is in
+    let yes = c.in_ok-done.was in
     let lt : x.revision < last-revision = omega (arith, c.if-revision-eq18446744073709551615.false) in
     λ a s e M.
     let k = S.right (suc a.revision) M.change.free M.inside (c.number_of-spare.ensures M.change.free M.first) in
     let F = change-taken x.heads.now x.ids.now x.shares.now x.minima.now c.requires a s x.to.root x.to.spare M (omega (arith, lt, e)) (sym k.answer ∙ yes) in
     (F ∙ ap (λ (b : Arena). accepted b) (k.tree yes ∙ (λ z. arena_from c.settle-done.result.root ((ap suc e ∙ sym (add-one x.revision)) z) c.settle-done.new.heads c.settle-done.new.ids c.settle-done.new.shares c.settle-done.new.minima)), plain-even _ _ _ _ (S.left.plain yes) (S.left.whole yes))
 
-pub returns-in-Refused : goal.returns-in-Refused
-returns-in-Refused c =
+pub returns-in_err-done : goal.returns-in_err-done
+returns-in_err-done c =
     let x = c.args in
     let S = c.settle-done.ensures in
     let lt : x.revision < last-revision = omega (arith, c.if-revision-eq18446744073709551615.false) in
     λ a s e M.
     let k = S.right (suc a.revision) M.change.free M.inside (c.number_of-spare.ensures M.change.free M.first) in
-    change-refused x.heads.now x.ids.now x.shares.now x.minima.now c.requires a s x.to.root x.to.spare M (omega (arith, lt, e)) _ (sym k.answer ∙ c.in-Refused.is)
+    comes-on a _ _ _ _ _ c.from_residual.result _ (exits c.from_residual.result c.from_residual.ensures.1) (change-refused x.heads.now x.ids.now x.shares.now x.minima.now c.requires a s x.to.root x.to.spare M (omega (arith, lt, e)) _ (sym k.answer ∙ c.in_err-done.was))

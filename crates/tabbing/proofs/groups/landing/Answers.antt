@@ -1,4 +1,5 @@
 -- `tabbing::groups::landing` meets its contract. Assumes nothing.
+use native.Mathlib.Omega.{arith}
 use Rattle.nodes.proofs.SlotLaws.{tabs-few, tabs-place}
 use Rattle.nodes.proofs.GroupLaws.{group-kind, landed}
 use Rattle.tabbing.proofs.groups.landing.Goals as goal
@@ -6,7 +7,7 @@ use Rattle.tabbing.proofs.groups.landing.Goals as goal
 pub remove-left-requires : goal.remove-left-requires
 remove-left-requires c =
     let s = c.args.s in
-    group-kind s c.requires.group (λ b e. (tabs-place s b e c.args.from c.requires.inside, tabs-few s b e c.requires.whole))
+    (omega arith, group-kind s c.requires.group (λ b e. (tabs-place s b e c.args.from c.requires.inside, tabs-few s b e c.requires.whole)))
 
 pub returns : goal.returns
 returns c =
