@@ -1,8 +1,10 @@
 -- Laws that the proofs of the walk cite, over plain values. Assumes nothing.
-use mathlib.Core.Path.{◌≡◌, refl, sym, ap, subst, ◌∙◌}
+use mathlib.Core.Path.{◌≡◌, refl, sym, ap, ◌∙◌}
 use mathlib.Core.Bool.{Bool, true, false, cond}
 use mathlib.Core.List.{List, [], ◌∷◌, ◌++◌}
 use mathlib.Core.Option.{Option, none, some}
+use Rattle.std.specs.Prelude.{Option as Maybe, Some, None}
+use Rattle.std.proofs.lemmas.Option.{IfSome_then}
 use Prim.Native.Nat.{ℕ, ◌+◌, ◌≤◌, ◌<◌}
 use native.Mathlib.Numerals.{add-one}
 use native.Mathlib.Omega.{arith}
@@ -17,9 +19,8 @@ use Rattle.rules.specs.declared.model.Axis.{Axis}
 use Rattle.forest.specs.Answers.{some-none}
 use Rattle.columns.specs.Columns.{nodes_from}
 use Rattle.columns.specs.ColumnLaws.{nodes-long}
-use Rattle.calm.specs.Calm.{look, calm_panes, seeing}
+use Rattle.calm.specs.Calm.{calm_panes, seeing}
 use Rattle.calm.specs.Reads.{sighted, looked, Sights, Groups}
-use Rattle.calm.specs.declared.Calm.{Calm}
 
 abbrev or_none : Option (List ℕ) → List ℕ
 or_none none = []
@@ -27,6 +28,11 @@ or_none (some x) = x
 
 some_same : (x y : List ℕ) → some x ≡ some y → x ≡ y
 some_same x y z = let w : or_none (some x) ≡ or_none (some y) = ap or_none z in w
+
+-- what is claimed beside what was seen
+pub looked-seen : (cs : List Bool) (seen : List ℕ) (r : Maybe ℕ) → looked r cs seen ≡ seeing cs (sighted r seen)
+looked-seen cs seen (Some m) = refl
+looked-seen cs seen None = refl
 
 -- ---- one pane
 
@@ -38,11 +44,10 @@ unfolding calm_panes
 one-is p s = refl
 
 module _ (p : ℕ) (seen : List ℕ) (n : ℕ) where
-  pub sights-no : (r : Calm) → contains p (take n seen) ≡ true → r.ok ≡ false → r.seen ≡ n → Sights (p ∷ []) seen n seen r
-  sights-no r e f g =
-      record { most = omega (arith, g); right = (λ i. sighted (f i) (take r.seen seen)) ∙ sym (one-is p (take n seen) ∙ ap (λ (b : Bool). one b p (take n seen)) e) }
+  pub sights-no : contains p (take n seen) ≡ true → Sights (p ∷ []) seen n seen None
+  sights-no e = record { most = tt; right = sym (one-is p (take n seen) ∙ ap (λ (b : Bool). one b p (take n seen)) e) }
 
-  pub sights-yes : (seen' : List ℕ) (m : ℕ) → contains p (take n seen) ≡ false → m ≡ n + 1 → take m seen' ≡ take n seen ++ p ∷ [] → Sights (p ∷ []) seen n seen' (record { ok = true; seen = m })
+  pub sights-yes : (seen' : List ℕ) (m : ℕ) → contains p (take n seen) ≡ false → m ≡ n + 1 → take m seen' ≡ take n seen ++ p ∷ [] → Sights (p ∷ []) seen n seen' (Some m)
   sights-yes seen' m e f g = record { most = omega (arith, f); right = ap some g ∙ sym (one-is p (take n seen) ∙ ap (λ (b : Bool). one b p (take n seen)) e) }
 
 -- ---- panes, one by one
@@ -58,12 +63,9 @@ module _ (ps seen₀ : List ℕ) (n : ℕ) where
   looking-none = record { few = omega arith; most = omega arith; left = refl }
 
   module _ (seen : List ℕ) (m j : ℕ) (L : Looking ps seen₀ n seen m j) where
-    module _ (h : j < length ps) (x : ℕ) (at : get_or ps j 0 ≡ x) (seen' : List ℕ) (c : Calm) (given : Sights (x ∷ []) seen m seen' c) where
+    module _ (h : j < length ps) (x : ℕ) (at : get_or ps j 0 ≡ x) (seen' : List ℕ) where
       abbrev p : ℕ
       p = get_or ps j 0
-
-      S : Sights (p ∷ []) seen m seen' c
-      S = subst (λ (y : ℕ). Sights (y ∷ []) seen m seen' c) (sym at) given
 
       abbrev s : List ℕ
       s = take m seen
@@ -72,35 +74,34 @@ module _ (ps seen₀ : List ℕ) (n : ℕ) where
       unfolding calm_panes
       step = sym L.left ∙ ap (λ (l : List ℕ). calm_panes l s) (drop-cons ps j 0 h ∙ ap (λ (k : ℕ). p ∷ drop k ps) (sym (add-one j)))
 
-      one-was : sighted c.ok (take c.seen seen') ≡ one (contains p s) p s
-      one-was = S.right ∙ one-is p s
+      one-was : (r : Maybe ℕ) → Sights (x ∷ []) seen m seen' r → sighted r seen' ≡ one (contains p s) p s
+      one-was r S = S.right ∙ one-is x s ∙ ap (λ (y : ℕ). one (contains y s) y s) (sym at)
 
-      new : (b : Bool) → some (take c.seen seen') ≡ one b p s → (b ≡ false) × (take c.seen seen' ≡ s ++ p ∷ [])
-      new true e = some-none e
-      new false e = (refl, some_same _ _ e)
+      new : (l : List ℕ) (b : Bool) → some l ≡ one b p s → (b ≡ false) × (l ≡ s ++ p ∷ [])
+      new l true e = some-none e
+      new l false e = (refl, some_same _ _ e)
 
       old : (b : Bool) → none ≡ one b p s → b ≡ true
       old true e = refl
       old false e = some-none (sym e)
 
-      pub looking-more : c.ok ≡ true → Looking ps seen₀ n seen' c.seen (j + 1)
-      looking-more e =
-          let (fresh, now) = new (contains p s) (sym (ap (λ (b : Bool). sighted b (take c.seen seen')) e) ∙ one-was) in
+      pub looking-more : (k : ℕ) → Sights (x ∷ []) seen m seen' (Some k) → Looking ps seen₀ n seen' k (j + 1)
+      looking-more k S =
+          let (fresh, now) = new (take k seen') (contains p s) (one-was (Some k) S) in
           record {
             few = omega arith;
             most = omega (arith, S.most, L.most);
             left = ap (calm_panes (drop (j + 1) ps)) now ∙ sym (step ∙ ap (λ (b : Bool). cond b none (calm_panes (drop (j + 1) ps) (s ++ p ∷ []))) fresh);
           }
 
-      pub looking-stop : c.ok ≡ false → (r : Calm) → r.ok ≡ false → r.seen ≡ m → Sights ps seen₀ n seen' r
-      looking-stop e r f g =
-          let again = old (contains p s) (sym (ap (λ (b : Bool). sighted b (take c.seen seen')) e) ∙ one-was) in
+      pub looking-stop : Sights (x ∷ []) seen m seen' None → Sights ps seen₀ n seen' None
+      looking-stop S =
           record {
-            most = omega (arith, L.most, g);
-            right = ap (λ (b : Bool). sighted b (take r.seen seen')) f ∙ sym (step ∙ ap (λ (b : Bool). cond b none (calm_panes (drop (j + 1) ps) (s ++ p ∷ []))) again);
+            most = tt;
+            right = sym (step ∙ ap (λ (b : Bool). cond b none (calm_panes (drop (j + 1) ps) (s ++ p ∷ []))) (old (contains p s) (one-was None S)));
           }
 
-    pub looking-done : length ps ≤ j → Sights ps seen₀ n seen (record { ok = true; seen = m })
+    pub looking-done : length ps ≤ j → Sights ps seen₀ n seen (Some m)
     unfolding calm_panes
     looking-done h = record { most = omega (arith, L.most, L.few); right = sym (ap (λ (l : List ℕ). calm_panes l (take m seen)) (drop_of_length-le ps h)) ∙ L.left }
 
@@ -115,25 +116,19 @@ module _ (hs xs : List (List ℕ)) (ss ms : List (List Float)) (h : length hs �
 
 module _ (h row : List ℕ) (seen : List ℕ) (n : ℕ) where
   -- no pane is at the active index
-  pub group-no : get_or h 4 0 ≤ get_or h 3 0 → (r : Calm) → r.ok ≡ false → r.seen ≡ n → Groups h row seen n seen r
-  group-no p r e f =
+  pub group-no : get_or h 4 0 ≤ get_or h 3 0 → Groups h row seen n seen None
+  group-no p =
       record {
-        most = omega (arith, f);
-        right = λ cs.
-            ap (λ (b : Bool). looked b (look cs (take r.seen seen))) e
-            ∙ ap (λ (b : Bool). cond b (seeing cs (calm_panes (take (get_or h 4 0) row) (take n seen))) none) (sym (le-ltb (get_or h 3 0) (length (take (get_or h 4 0) row)) (omega (arith, length-take (get_or h 4 0) row))));
+        most = tt;
+        right = λ cs. ap (λ (b : Bool). cond b (seeing cs (calm_panes (take (get_or h 4 0) row) (take n seen))) none) (sym (le-ltb (get_or h 3 0) (length (take (get_or h 4 0) row)) (omega (arith, length-take (get_or h 4 0) row))));
       }
 
-  pub group-yes : get_or h 3 0 < get_or h 4 0 → get_or h 4 0 ≤ 16 → length row ≡ 16 → (seen' : List ℕ) (r : Calm) → Sights (take (get_or h 4 0) row) seen n seen' r → Groups h row seen n seen' r
+  pub group-yes : get_or h 3 0 < get_or h 4 0 → get_or h 4 0 ≤ 16 → length row ≡ 16 → (seen' : List ℕ) (r : Maybe ℕ) → Sights (take (get_or h 4 0) row) seen n seen' r → Groups h row seen n seen' r
   group-yes p q l seen' r S =
       let long : length (take (get_or h 4 0) row) ≡ get_or h 4 0 = length-take-le (get_or h 4 0) row (omega arith) in
       record {
-        most = omega (arith, S.most, long);
+        most = IfSome_then r S.most (λ m g. omega (arith, long, g));
         right = λ cs.
-            by cs r.ok ∙ ap (seeing cs) S.right
+            looked-seen cs seen' r ∙ ap (seeing cs) S.right
             ∙ ap (λ (b : Bool). cond b (seeing cs (calm_panes (take (get_or h 4 0) row) (take n seen))) none) (sym (lt-ltb (get_or h 3 0) (length (take (get_or h 4 0) row)) (omega (arith, long))));
       }
-    where
-      by : (cs : List Bool) (b : Bool) → looked b (look cs (take r.seen seen')) ≡ seeing cs (sighted b (take r.seen seen'))
-      by cs true = refl
-      by cs false = refl

@@ -3,16 +3,15 @@ ghost use Rattle.std.specs.Prelude.{◌≡◌, List, map, [], ℕ, ◌+◌, ◌*
 ghost use Rattle.rules.specs.Tree.{tile, node_at};
 ghost use Rattle.rules.specs.Repair.{melts};
 ghost use Rattle.forest.specs.Lists.{free};
-ghost use Rattle.columns.specs.Columns.{axis_from, nodes_from};
+ghost use Rattle.columns.specs.Columns.{axis_from, nodes_from, Slim};
 ghost use Rattle.calm.specs.Calm.{look, calm, calm_split};
-ghost use Rattle.calm.specs.Reads.{Grid, Reads};
+ghost use Rattle.calm.specs.Reads.{Reads};
 
-use crate::{Calm, leaves, split_lists};
+use crate::{leaves, split_lists};
 use melting::rows;
 
 // Whether repair would melt a child in, as it stands.
 fn melts_in(heads: &[[u64; 8]; 64], child: u64, mode: u64, minimum: f64) -> bool
-    requires { length heads.now ≡ 64 }
     ensures { (xs : List (List ℕ)) (ss ms : List (List Float)) → length xs ≡ 64 → length ss ≡ 64 → length ms ≡ 64 → result ≡ melts (axis_from mode) minimum (node_at (nodes_from heads.now xs ss ms) (tile child)) }
 {
     if 64 <= child {
@@ -35,34 +34,45 @@ pub fn calm_node(
     n: usize,
     id: u64,
     depth: u64,
-) -> Calm
-    requires { Grid heads.now ids.now shares.now minima.now claimed.old × (n + 16 * free claimed.old ≤ 1024) }
+) -> Option<usize>
+    requires slim { (i : ℕ) → Slim (get_or heads.now i []) }
+    requires room { n + 16 * free claimed.old ≤ 1024 }
     ensures { Reads (calm depth (nodes_from heads.now ids.now shares.now minima.now) (tile id) (look claimed.old (take n seen.old))) claimed.old n claimed.new seen.new result }
 {
     if depth == 0 {
-        return leaves::stopped(n);
+        return None;
     }
     if 64 <= id {
-        return leaves::stopped(n);
+        return None;
     }
     let i = id as usize;
     if claimed[i] {
-        return leaves::stopped(n);
+        return None;
     }
     let h = heads[i];
     let kind = h[0];
     if kind == 0 {
-        return leaves::stopped(n);
+        return None;
     }
     claimed[i] = true;
     if kind == 1 {
         return leaves::calm_pane(seen, n, h[2]);
     }
     if kind == 2 {
-        split_lists::measured(ids, shares, minima, i);
         return leaves::calm_group(seen, n, h, &ids[i]);
     }
-    calm_split(heads, ids, shares, minima, claimed, seen, n, id, depth - 1)
+    calm_split(
+        heads,
+        ids,
+        shares,
+        minima,
+        claimed,
+        seen,
+        n,
+        id,
+        &ids[i],
+        depth - 1,
+    )
 }
 
 // normalize_split, read only, of a split whose slot is claimed
@@ -76,33 +86,29 @@ fn calm_split(
     seen: &mut [u64; 1024],
     n: usize,
     id: u64,
+    kids: &[u64; 16],
     depth: u64,
-) -> Calm
-    requires { Grid heads.now ids.now shares.now minima.now claimed.old × (n + 16 * free claimed.old ≤ 1024) × (id < 64) }
-    ensures { Reads (calm_split (calm depth (nodes_from heads.now ids.now shares.now minima.now)) (nodes_from heads.now ids.now shares.now minima.now) (axis_from (get_or (get_or heads.now id []) 1 0)) (map tile (take (get_or (get_or heads.now id []) 4 0) (get_or ids.now id []))) (take (get_or (get_or heads.now id []) 5 0) (get_or shares.now id [])) (take (get_or (get_or heads.now id []) 6 0) (get_or minima.now id [])) (look claimed.old (take n seen.old))) claimed.old n claimed.new seen.new result }
+) -> Option<usize>
+    requires slim { (i : ℕ) → Slim (get_or heads.now i []) }
+    requires room { n + 16 * free claimed.old ≤ 1024 }
+    requires inside { id < 64 }
+    ensures { Reads (calm_split (calm depth (nodes_from heads.now ids.now shares.now minima.now)) (nodes_from heads.now ids.now shares.now minima.now) (axis_from (get_or (get_or heads.now id []) 1 0)) (map tile (take (get_or (get_or heads.now id []) 4 0) kids.now)) (take (get_or (get_or heads.now id []) 5 0) (get_or shares.now id [])) (take (get_or (get_or heads.now id []) 6 0) (get_or minima.now id [])) (look claimed.old (take n seen.old))) claimed.old n claimed.new seen.new result }
 {
     let i = id as usize;
-    split_lists::measured(ids, shares, minima, i);
     if !split_lists::lists_calm(heads, shares, minima, i) {
-        return leaves::stopped(n);
+        return None;
     }
     let mode = heads[i][1];
     let count = heads[i][4] as usize;
     let least = heads[i][6] as usize;
     let mut m = n;
-    let mut j = 0usize;
-    while j < count {
-        let child = ids[i][j];
-        let w = calm_node(heads, ids, shares, minima, claimed, seen, m, child, depth);
-        if !w.ok {
-            return leaves::stopped(w.seen);
-        }
-        let minimum = split_lists::minimum_at(minima, i, least, j);
+    for j in 0..count {
+        let child = kids[j];
+        m = calm_node(heads, ids, shares, minima, claimed, seen, m, child, depth)?;
+        let minimum = split_lists::minimum_at(&minima[i], least, j);
         if melts_in(heads, child, mode, minimum) {
-            return leaves::stopped(w.seen);
+            return None;
         }
-        m = w.seen;
-        j += 1;
     }
-    Calm { ok: true, seen: m }
+    Some(m)
 }

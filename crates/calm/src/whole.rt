@@ -1,5 +1,5 @@
 // The whole walk: from the root, and then whether an occupied slot was left out.
-ghost use Rattle.std.specs.Prelude.{◌≡◌, false, [], ℕ, length, get_or, replicate};
+ghost use Rattle.std.specs.Prelude.{◌≡◌, false, [], ℕ, get_or, replicate};
 ghost use Rattle.rules.specs.Tree.{tile};
 ghost use Rattle.columns.specs.Columns.{nodes_from, Slim};
 ghost use Rattle.calm.specs.Calm.{look, calm, calm_end};
@@ -15,12 +15,12 @@ pub fn calm_columns(
     shares: &[[f64; 16]; 64],
     minima: &[[f64; 16]; 64],
 ) -> bool
-    requires { (length heads.now ≡ 64) × (length ids.now ≡ 64) × (length shares.now ≡ 64) × (length minima.now ≡ 64) × ((i : ℕ) → Slim (get_or heads.now i [])) }
+    requires { (i : ℕ) → Slim (get_or heads.now i []) }
     ensures { result ≡ calm_end (nodes_from heads.now ids.now shares.now minima.now) (calm 64 (nodes_from heads.now ids.now shares.now minima.now) (tile root) (look (replicate 64 false) [])) }
 {
     let mut claimed = [false; 64];
     let mut seen = [0u64; 1024];
-    let w = nodes::calm_node(
+    let walked = nodes::calm_node(
         heads,
         ids,
         shares,
@@ -31,8 +31,5 @@ pub fn calm_columns(
         root,
         64,
     );
-    if !w.ok {
-        return false;
-    }
-    sweep::none_lost(heads, &claimed)
+    walked.is_some() && sweep::none_lost(heads, &claimed)
 }

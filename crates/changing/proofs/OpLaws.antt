@@ -3,6 +3,9 @@ use mathlib.Core.Path.{◌≡◌, refl, sym, ap, subst, ◌∙◌}
 use mathlib.Core.Bool.{Bool, true, false, cond}
 use mathlib.Core.List.{List, [], ◌∷◌}
 use mathlib.Core.Option.{Option, none, some}
+use Rattle.std.specs.Prelude.{Option as Maybe, not, is_some, Result}
+use Rattle.nodes.specs.declared.PaneLocation.{PaneLocation as Location}
+use Rattle.nodes.proofs.FindLaws.{somewhere-some}
 use Prim.Native.Nat.{ℕ, zero, suc, ◌<◌}
 use native.Mathlib.Omega.{arith}
 use borrow.Author.Tests.{le-ltb, leb-true, eq-eqb, ne_eqb}
@@ -25,23 +28,22 @@ use Rattle.rules.specs.declared.refusal.Refusal.{Refusal}
 use Rattle.rules.specs.declared.refusal.Refusal.TheVariants.{TooWide, InvalidOperation, InvalidPaneId, DuplicatePane}
 use Rattle.forest.specs.Lists.{never}
 use Rattle.forest.specs.Soundness.{slots-inside}
-use Rattle.columns.specs.Pack.{first_of}
 use Rattle.lists.specs.Find.{position-found}
 use Rattle.nodes.specs.Find.{is_split, scan_pane, Stands, scan-stands}
-use Rattle.nodes.specs.Parts.{IsGroup, reordered_in, Spared}
+use Rattle.nodes.specs.Parts.{location_of, IsGroup, reordered_in, first_slot, Spared}
 use Rattle.nodes.specs.declared.Spares.{Spares}
 use Rattle.docking.specs.Near.{Alike, alike_self, alike-removed}
 use Rattle.docking.specs.Steps.{Fit, Makes, Steps, Taken, Fits, reorder_as}
-use Rattle.docking.specs.declared.Stepped.{Stepped}
-use Rattle.docking.proofs.FinishLaws.{step-goes, step-only, step-wide, spare-is, wide-set}
+use Rattle.docking.specs.declared.Changed.{Changed}
+use Rattle.docking.proofs.FinishLaws.{step-goes, step-only, step-wide, wide-set}
 
 -- the same step by another name
-pub steps-like : (a : Arena) (s u : Step) (r : Stepped) (ns : List Node) → s ≡ u → Steps a u r ns → Steps a s r ns
+pub steps-like : (a : Arena) (s u : Step) (r : Result (Maybe Changed) Refusal) (ns : List Node) → s ≡ u → Steps a u r ns → Steps a s r ns
 steps-like a s u r ns q S = subst (λ (x : Step). Steps a x r ns) (sym q) S
 
 -- the same where what it came to is told
-pub steps-told : (a : Arena) (s : Step) (r y : Stepped) (ns : List Node) → r ≡ y → Steps a s r ns → Steps a s y ns
-steps-told a s r y ns q S = subst (λ (z : Stepped). Steps a s z ns) q S
+pub steps-told : (a : Arena) (s : Step) (r y : Result (Maybe Changed) Refusal) (ns : List Node) → r ≡ y → Steps a s r ns → Steps a s y ns
+steps-told a s r y ns q S = subst (λ (z : Result (Maybe Changed) Refusal). Steps a s z ns) q S
 
 -- a refusal
 pub refused_as : (a : Arena) (s : Step) (e : Refusal) → s ≡ refuse e → finish a s ≡ refused e a
@@ -53,7 +55,7 @@ module _ (a : Arena) (long : length a.nodes ≡ 64) where
   abbrev ns : List Node
   ns = a.nodes
 
-  pub only-goes : (s : Step) (out done : List Node) (spare : ℕ) → s ≡ change_only a out → done ≡ out → spare ≡ first_of (empty_slots ns) → Makes a s a.root.slot spare done
+  pub only-goes : (s : Step) (out done : List Node) (spare : Maybe TileId) → s ≡ change_only a out → done ≡ out → spare ≡ first_slot (empty_slots ns) → Makes a s a.root.slot spare done
   only-goes s out done spare q o e = step-only a long s (draft a.root out) a.root.slot spare done q (ap (draft a.root) (sym o)) e
 
   -- ---- activate, in a group
@@ -62,13 +64,20 @@ module _ (a : Arena) (long : length a.nodes ≡ 64) where
     pub activate-same : Rule.active_is i n ≡ true → Rule.activate_at (in_tabs g i) a ≡ unchanged
     activate-same e = ap (λ (b : Bool). Rule.activate_by b a g i) (ap (Rule.active_is i) (sym is) ∙ e)
 
-    pub activate-other : (m : Node) (out : List Node) (spare : ℕ) → Rule.active_is i n ≡ false → m ≡ Rule.set_active i n → out ≡ set_node g m ns → spare ≡ first_of (empty_slots ns)
+    pub activate-other : (m : Node) (out : List Node) (spare : Maybe TileId) → Rule.active_is i n ≡ false → m ≡ Rule.set_active i n → out ≡ set_node g m ns → spare ≡ first_slot (empty_slots ns)
         → Makes a (Rule.activate_at (in_tabs g i) a) a.root.slot spare out
     activate-other m out spare e w o q =
         only-goes (Rule.activate_at (in_tabs g i) a) (set_node g (Rule.set_active i (node_at ns g)) ns) out spare (ap (λ (b : Bool). Rule.activate_by b a g i) (ap (Rule.active_is i) (sym is) ∙ e))
         (o ∙ ap (λ (x : Node). set_node g x ns) (w ∙ ap (Rule.set_active i) is)) q
 
 -- ---- where a pane stands
+
+-- what `is_none` tells of where it stands
+pub nowhere-none : (l : Maybe Location) (b : Bool) → is_some l ≡ not b → b ≡ true → is_somewhere (location_of l) ≡ false
+nowhere-none l b e q = somewhere-some l ∙ e ∙ ap not q
+
+pub somewhere-there : (l : Maybe Location) (b : Bool) → is_some l ≡ not b → b ≡ false → is_somewhere (location_of l) ≡ true
+somewhere-there l b e q = somewhere-some l ∙ e ∙ ap not q
 
 module _ (a : Arena) (F : Fit a.root a.nodes) (p : ℕ) (l : PaneLocation) (scan : l ≡ scan_pane a.nodes p) where
   is : where_is a p ≡ l
@@ -106,7 +115,7 @@ module _ (a : Arena) (F : Fit a.root a.nodes) (p : ℕ) (l : PaneLocation) (scan
       go true e = le-ltb (length (empty_slots a.nodes)) 1 (let h = F.room (leb-true (length (panes_in a.root a.nodes)) 1 e) in omega arith)
       go false e = le-ltb (length (empty_slots a.nodes)) 0 (omega arith)
 
-  pub close-goes : (out : List Node) (spare : ℕ) → is_somewhere l ≡ true → out ≡ remove_pane l a.nodes → spare ≡ first_of (empty_slots a.nodes) → Makes a (Rule.close_pane a p) a.root.slot spare out
+  pub close-goes : (out : List Node) (spare : Maybe TileId) → is_somewhere l ≡ true → out ≡ remove_pane l a.nodes → spare ≡ first_slot (empty_slots a.nodes) → Makes a (Rule.close_pane a p) a.root.slot spare out
   close-goes out spare s o e =
       step-goes a F.size (Rule.close_pane a p) (draft a.root (remove_pane l a.nodes)) (Rule.needed_to_close a) (empty_slots a.nodes) a.root.slot spare out
       (ap (λ (m : PaneLocation). Rule.close_at m a) is ∙ close-some l s) (ap (draft a.root) (sym o)) close-room (slots-inside a.nodes F.size) e
@@ -189,7 +198,7 @@ module _ (root : ℕ) (room : Spares) (ms : List Node) (p : ℕ) (g : TileId) (x
   tab-goes m done w o =
       step-only a T.fit.size tabbing (draft a.root (set_node g (Rule.tabbed_in p x (node_at ms g)) ms)) root room.first done refl
       (λ z. draft (tile (T.under z)) (sym (o ∙ ap (λ (y : Node). set_node g y ms) (w ∙ ap (Rule.tabbed_in p x) e)) z))
-      (T.spared.first ∙ spare-is a T.fit.size 0)
+      T.spared.first
 
 -- ---- reorder
 

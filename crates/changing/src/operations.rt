@@ -7,11 +7,10 @@ ghost use Rattle.rules.specs.Tree as Tree;
 ghost use Rattle.columns.specs.Columns.{nodes_from};
 ghost use Rattle.columns.specs.Pack.{Even};
 ghost use Rattle.nodes.specs.Parts.{beside_of};
-ghost use Rattle.docking.specs.Steps.{Does, Ready, Puts, Taken};
+ghost use Rattle.docking.specs.Steps.{always, Does, Ready, Puts, Taken};
 
-use docking::{Stepped, near};
-use nodes::{Beside, Checked, PaneLocation, Spares, find, slots, take, targets};
-use noting::sweep;
+use docking::{Changed, near};
+use nodes::{Beside, PaneLocation, Spares, find, slots, take, targets};
 use rules::model::{Axis, Placement, TileId};
 use rules::operation::DockTarget;
 use rules::refusal::Refusal;
@@ -27,18 +26,18 @@ fn activate_in(
     ids: &mut [[u64; 16]; 64],
     shares: &mut [[f64; 16]; 64],
     minima: &mut [[f64; 16]; 64],
-) -> Stepped
+) -> Result<Option<Changed>, Refusal>
     requires { Even heads.old ids.old shares.old minima.old }
     ensures { Does root (λ (a : Arena). Rule.activate_at (in_tabs group index) a) result heads.old ids.old shares.old minima.old heads.new ids.new shares.new minima.new }
 {
     let s = slots::get_node(heads, ids, shares, minima, group);
     if groups::active_is(s, index) {
-        return Stepped::Unchanged;
+        return Ok(None);
     }
-    let spare = sweep::first_empty(heads);
+    let spare = slots::next_empty(heads, 0);
     let next = groups::set_active(s, index);
     slots::set_node(heads, ids, shares, minima, group, next);
-    Stepped::Changed { root, spare }
+    Ok(Some(Changed { root, spare }))
 }
 
 // activate_pane
@@ -49,14 +48,13 @@ pub fn activate_pane(
     ids: &mut [[u64; 16]; 64],
     shares: &mut [[f64; 16]; 64],
     minima: &mut [[f64; 16]; 64],
-) -> Stepped
+) -> Result<Option<Changed>, Refusal>
     requires { Ready root heads.old ids.old shares.old minima.old }
     ensures { Does root (λ (a : Arena). Rule.activate_pane a pane) result heads.old ids.old shares.old minima.old heads.new ids.new shares.new minima.new }
 {
-    let l = find::find_pane(heads, ids, pane);
+    let l = find::find_pane(heads, ids, pane).ok_or(Refusal::InvalidPaneId)?;
     match l {
-        PaneLocation::Nowhere => Stepped::Refused(Refusal::InvalidPaneId),
-        PaneLocation::Tile { tile: _ } => Stepped::Unchanged,
+        PaneLocation::Tile { tile: _ } => Ok(None),
         PaneLocation::InTabs { group, index } => {
             activate_in(root, group, index, heads, ids, shares, minima)
         }
@@ -71,17 +69,17 @@ pub fn close_pane(
     ids: &mut [[u64; 16]; 64],
     shares: &mut [[f64; 16]; 64],
     minima: &mut [[f64; 16]; 64],
-) -> Stepped
+) -> Result<Changed, Refusal>
     requires { Ready root heads.old ids.old shares.old minima.old }
-    ensures { Does root (λ (a : Arena). Rule.close_pane a pane) result heads.old ids.old shares.old minima.old heads.new ids.new shares.new minima.new }
+    ensures { Does root (λ (a : Arena). Rule.close_pane a pane) (always result) heads.old ids.old shares.old minima.old heads.new ids.new shares.new minima.new }
 {
     let l = find::find_pane(heads, ids, pane);
-    if !find::is_somewhere(l) {
-        return Stepped::Refused(Refusal::InvalidPaneId);
+    if l.is_none() {
+        return Err(Refusal::InvalidPaneId);
     }
-    let spare = sweep::first_empty(heads);
+    let spare = slots::next_empty(heads, 0);
     take::remove_pane(heads, ids, shares, minima, l);
-    Stepped::Changed { root, spare }
+    Ok(Changed { root, spare })
 }
 
 // A new pane tile beside one.
@@ -93,9 +91,9 @@ fn split_at(
     ids: &mut [[u64; 16]; 64],
     shares: &mut [[f64; 16]; 64],
     minima: &mut [[f64; 16]; 64],
-) -> Stepped
+) -> Result<Changed, Refusal>
     requires { Ready root heads.old ids.old shares.old minima.old }
-    ensures { Does root (λ (a : Arena). Rule.put_near a (Tree.pane pane) (beside_of b) (Rule.start a)) result heads.old ids.old shares.old minima.old heads.new ids.new shares.new minima.new }
+    ensures { Does root (λ (a : Arena). Rule.put_near a (Tree.pane pane) (beside_of b) (Rule.start a)) (always result) heads.old ids.old shares.old minima.old heads.new ids.new shares.new minima.new }
 {
     let room = slots::spares(heads);
     let new = slots::pane_slot(pane);
@@ -114,20 +112,19 @@ pub fn split_pane(
     ids: &mut [[u64; 16]; 64],
     shares: &mut [[f64; 16]; 64],
     minima: &mut [[f64; 16]; 64],
-) -> Stepped
+) -> Result<Changed, Refusal>
     requires { Ready root heads.old ids.old shares.old minima.old }
-    ensures { Does root (λ (a : Arena). Rule.split_pane a pane axis new_pane placement share) result heads.old ids.old shares.old minima.old heads.new ids.new shares.new minima.new }
+    ensures { Does root (λ (a : Arena). Rule.split_pane a pane axis new_pane placement share) (always result) heads.old ids.old shares.old minima.old heads.new ids.new shares.new minima.new }
 {
     if !shares::is_valid_split_fraction(share) {
-        return Stepped::Refused(Refusal::InvalidOperation);
+        return Err(Refusal::InvalidOperation);
     }
     let other = find::find_pane(heads, ids, new_pane);
-    if find::is_somewhere(other) {
-        return Stepped::Refused(Refusal::DuplicatePane(new_pane));
+    if other.is_some() {
+        return Err(Refusal::DuplicatePane(new_pane));
     }
-    let l = find::find_pane(heads, ids, pane);
+    let l = find::find_pane(heads, ids, pane).ok_or(Refusal::InvalidPaneId)?;
     match l {
-        PaneLocation::Nowhere => Stepped::Refused(Refusal::InvalidPaneId),
         PaneLocation::Tile { tile } => split_at(
             root,
             new_pane,
@@ -170,21 +167,20 @@ fn tab_into(
     ids: &mut [[u64; 16]; 64],
     shares: &mut [[f64; 16]; 64],
     minima: &mut [[f64; 16]; 64],
-) -> Stepped
+) -> Result<Changed, Refusal>
     requires { Even heads.old ids.old shares.old minima.old }
     ensures { Puts (Taken root room (nodes_from heads.old ids.old shares.old minima.old)) (λ (a : Arena). Rule.change_only a (set_node group (Rule.tabbed_in pane index (node_at (nodes_from heads.old ids.old shares.old minima.old) group)) (nodes_from heads.old ids.old shares.old minima.old))) result heads.new ids.new shares.new minima.new }
 {
     let s = slots::get_node(heads, ids, shares, minima, group);
-    slots::rows(s);
     if groups::is_full(s) {
-        return Stepped::Refused(Refusal::TooWide);
+        return Err(Refusal::TooWide);
     }
     let next = groups::tabbed_in(s, pane, index);
     slots::set_node(heads, ids, shares, minima, group, next);
-    Stepped::Changed {
+    Ok(Changed {
         root,
         spare: room.first,
-    }
+    })
 }
 
 // insert_tile_at_target: to root, a Top group with the pane, horizontally after, fraction 0.5.
@@ -197,8 +193,9 @@ fn insert_tile_at_target(
     ids: &mut [[u64; 16]; 64],
     shares: &mut [[f64; 16]; 64],
     minima: &mut [[f64; 16]; 64],
-) -> Stepped
-    requires { Even heads.old ids.old shares.old minima.old × ((a : Arena) × Taken root room (nodes_from heads.old ids.old shares.old minima.old) a) }
+) -> Result<Changed, Refusal>
+    requires even { Even heads.old ids.old shares.old minima.old }
+    requires from { (a : Arena) × Taken root room (nodes_from heads.old ids.old shares.old minima.old) a }
     ensures { Puts (Taken root room (nodes_from heads.old ids.old shares.old minima.old)) (λ (a : Arena). Rule.insert_tile_at_target a pane target (draft a.root (nodes_from heads.old ids.old shares.old minima.old))) result heads.new ids.new shares.new minima.new }
 {
     match target {
@@ -242,18 +239,15 @@ pub fn move_pane(
     ids: &mut [[u64; 16]; 64],
     shares: &mut [[f64; 16]; 64],
     minima: &mut [[f64; 16]; 64],
-) -> Stepped
+) -> Result<Changed, Refusal>
     requires { Ready root heads.old ids.old shares.old minima.old }
-    ensures { Does root (λ (a : Arena). Rule.move_pane a pane to) result heads.old ids.old shares.old minima.old heads.new ids.new shares.new minima.new }
+    ensures { Does root (λ (a : Arena). Rule.move_pane a pane to) (always result) heads.old ids.old shares.old minima.old heads.new ids.new shares.new minima.new }
 {
     let l = find::find_pane(heads, ids, pane);
-    if !find::is_somewhere(l) {
-        return Stepped::Refused(Refusal::InvalidPaneId);
+    if l.is_none() {
+        return Err(Refusal::InvalidPaneId);
     }
-    let checked = targets::validate_target(heads, ids, shares, minima, to);
-    if let Checked::Bad(e) = checked {
-        return Stepped::Refused(e);
-    }
+    targets::validate_target(heads, ids, shares, minima, to)?;
     let room = slots::spares(heads);
     take::remove_pane(heads, ids, shares, minima, l);
     insert_tile_at_target(root, room, pane, to, heads, ids, shares, minima)

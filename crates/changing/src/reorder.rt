@@ -7,9 +7,8 @@ ghost use Rattle.columns.specs.Pack.{Even};
 ghost use Rattle.nodes.specs.Parts.{IsGroup};
 ghost use Rattle.docking.specs.Steps.{Does, reorder_as};
 
-use docking::Stepped;
+use docking::Changed;
 use nodes::slots;
-use noting::sweep;
 use rules::model::{Kind, Slot, TileId};
 use rules::refusal::Refusal;
 use tabbing::groups;
@@ -26,19 +25,21 @@ fn reorder_from(
     ids: &mut [[u64; 16]; 64],
     shares: &mut [[f64; 16]; 64],
     minima: &mut [[f64; 16]; 64],
-) -> Stepped
-    requires { Even heads.old ids.old shares.old minima.old × (over_slot s ≡ false) × IsGroup (view_slot s) × (from < length (panes_of (view_slot s))) }
+) -> Result<Option<Changed>, Refusal>
+    requires even { Even heads.old ids.old shares.old minima.old }
+    requires whole { over_slot s ≡ false }
+    requires group { IsGroup (view_slot s) }
+    requires inside { from < length (panes_of (view_slot s)) }
     ensures { Does root (λ (a : Arena). reorder_as (some from) (view_slot s) a group pane index) result heads.old ids.old shares.old minima.old heads.new ids.new shares.new minima.new }
 {
-    slots::rows(s);
     let to = groups::landing(s, from, index);
     if from == to {
-        return Stepped::Unchanged;
+        return Ok(None);
     }
-    let spare = sweep::first_empty(heads);
+    let spare = slots::next_empty(heads, 0);
     let next = groups::reordered(s, pane, from, to);
     slots::set_node(heads, ids, shares, minima, group, next);
-    Stepped::Changed { root, spare }
+    Ok(Some(Changed { root, spare }))
 }
 
 // reorder_tab, in a group.
@@ -52,8 +53,10 @@ fn reorder_in(
     ids: &mut [[u64; 16]; 64],
     shares: &mut [[f64; 16]; 64],
     minima: &mut [[f64; 16]; 64],
-) -> Stepped
-    requires { Even heads.old ids.old shares.old minima.old × (over_slot s ≡ false) × IsGroup (view_slot s) }
+) -> Result<Option<Changed>, Refusal>
+    requires even { Even heads.old ids.old shares.old minima.old }
+    requires whole { over_slot s ≡ false }
+    requires group { IsGroup (view_slot s) }
     ensures { Does root (λ (a : Arena). Rule.reorder_in (view_slot s) a group pane index) result heads.old ids.old shares.old minima.old heads.new ids.new shares.new minima.new }
 {
     let panes = s.panes;
@@ -62,7 +65,7 @@ fn reorder_in(
         Some(from) => reorder_from(
             root, group, s, pane, from, index, heads, ids, shares, minima,
         ),
-        None => Stepped::Refused(Refusal::InvalidPaneId),
+        None => Err(Refusal::InvalidPaneId),
     }
 }
 
@@ -76,16 +79,16 @@ pub fn reorder_tab(
     ids: &mut [[u64; 16]; 64],
     shares: &mut [[f64; 16]; 64],
     minima: &mut [[f64; 16]; 64],
-) -> Stepped
+) -> Result<Option<Changed>, Refusal>
     requires { Even heads.old ids.old shares.old minima.old }
     ensures { Does root (λ (a : Arena). Rule.reorder_tab a group pane index) result heads.old ids.old shares.old minima.old heads.new ids.new shares.new minima.new }
 {
     let s = slots::get_node(heads, ids, shares, minima, group);
     let k = s.kind;
     match k {
-        Kind::Empty => Stepped::Refused(Refusal::InvalidTileId),
-        Kind::Pane(_) => Stepped::Refused(Refusal::InvalidTileId),
+        Kind::Empty => Err(Refusal::InvalidTileId),
+        Kind::Pane(_) => Err(Refusal::InvalidTileId),
         Kind::Tabs(_) => reorder_in(root, group, s, pane, index, heads, ids, shares, minima),
-        Kind::Split(_) => Stepped::Refused(Refusal::InvalidTileId),
+        Kind::Split(_) => Err(Refusal::InvalidTileId),
     }
 }

@@ -1,8 +1,12 @@
 -- Laws of what follows an operation: the tests of room and width, the revision, and the repair. Assumes nothing.
-use mathlib.Core.Path.{◌≡◌, refl, sym, ap, ◌∙◌}
+use mathlib.Core.Path.{◌≡◌, refl, sym, ap, subst, ◌∙◌}
 use mathlib.Core.Bool.{Bool, true, false, ◌||◌, or-true}
 use mathlib.Core.List.{List, [], ◌∷◌, map}
 use mathlib.Core.Option.{Option, none, some}
+use Rattle.std.specs.Prelude.{Option as Maybe, Some, None, Result, Ok, Err}
+use Rattle.std.specs.Option.{unwrap_or}
+use Rattle.std.specs.Result.{result_unwrap_or}
+use Rattle.rules.specs.declared.model.TileId.{TileId}
 use Prim.Native.Nat.{ℕ, zero, suc, ◌≤◌, ◌<◌}
 use native.Mathlib.Omega.{arith}
 use borrow.Author.Tests.{le-ltb, lt-ltb, ltb-false, le-leb, lt-leb}
@@ -13,19 +17,20 @@ use Rattle.rules.specs.Lists.{any_of}
 use Rattle.rules.specs.Tree.{Node, Arena, arena, tile, wide_node, empty_slots}
 use Rattle.rules.specs.Repair.{Normal, normalize, Repaired, repaired_by, repaired_as}
 use Rattle.rules.specs.Insert.{Draft, draft}
-use Rattle.rules.specs.Operations.{Change, change, Step, refused, accepted, Applied, normal_by, normal_as, last-revision, revised_by, inserted_by, room_by, finish}
-use Rattle.rules.specs.Refusals.{Answer}
-use Rattle.rules.specs.Refusals.{Accepted, Refused}
+use Rattle.rules.specs.Operations.{Applied, taken, Change, change, Step, refused, accepted, normal_by, normal_as, last-revision, revised_by, inserted_by, room_by, finish}
+use Rattle.rules.specs.Refusals.{Answer, Accepted, Refused}
 use Rattle.rules.specs.declared.refusal.Refusal.{Refusal}
 use Rattle.rules.specs.declared.refusal.Refusal.TheVariants.{ArenaFull, TooWide, RevisionExhausted}
 use Rattle.forest.specs.Lists.{All, all_drop}
 use Rattle.forest.specs.Soundness.{slots-inside}
 use Rattle.forest.specs.Finish.{normalized}
 use Rattle.columns.specs.Columns.{node_by, nodes_from}
-use Rattle.columns.specs.Pack.{first_of, over_head, Even}
+use Rattle.columns.specs.Pack.{over_head, Even}
 use Rattle.columns.specs.Shown.{arena_from}
 use Rattle.forest.specs.Bools.{or_left, or_right}
-use Rattle.docking.specs.Steps.{Makes, Comes}
+use Rattle.nodes.specs.Parts.{first_slot}
+use Rattle.nodes.proofs.SlotLaws.{some-not}
+use Rattle.docking.specs.Steps.{Makes, answered, Comes}
 use Rattle.docking.specs.declared.AppliedIn.{AppliedIn}
 
 -- ---- columns whose lists are of 16 at most show no list that is too wide
@@ -70,53 +75,54 @@ wide-set (x ∷ ns) (suc i) n h e = ap (λ (b : Bool). wide_node x || b) (wide-s
 
 -- ---- room
 
+abbrev slot_or : Maybe TileId → TileId
+slot_or (Some t) = t
+slot_or None = tile 0
+
 module _ (a : Arena) (size : length a.nodes ≡ 64) where
   abbrev free : List ℕ
   free = empty_slots a.nodes
 
-  get-below : (xs : List ℕ) (k : ℕ) → get_or xs k 64 < 64 → k < length xs
-  get-below [] k h = absurd (omega arith)
-  get-below (x ∷ xs) zero h = omega arith
-  get-below (x ∷ xs) (suc k) h = let g = get-below xs k h in omega arith
+  get-below : (xs : List ℕ) (k : ℕ) (t : TileId) → first_slot (drop k xs) ≡ Some t → (k < length xs) × (t ≡ tile (get_or xs k 64))
+  get-below [] zero t e = some-not e refl
+  get-below [] (suc k) t e = some-not e refl
+  get-below (x ∷ xs) zero t e = (omega arith, ap slot_or (sym e))
+  get-below (x ∷ xs) (suc k) t e = let (h, q) = get-below xs k t e in (omega arith, q)
 
-  get-past : (xs : List ℕ) → All (λ i. i < 64) xs → (k : ℕ) → 64 ≤ get_or xs k 64 → length xs ≤ k
-  get-past [] a k h = omega arith
-  get-past (x ∷ xs) a zero h = absurd (omega (arith, a.0))
-  get-past (x ∷ xs) a (suc k) h = let g = get-past xs a.1 k h in omega arith
+  get-past : (xs : List ℕ) (k : ℕ) → first_slot (drop k xs) ≡ None → length xs ≤ k
+  get-past [] k e = omega arith
+  get-past (x ∷ xs) zero e = some-not refl e
+  get-past (x ∷ xs) (suc k) e = let g = get-past xs k e in omega arith
 
-  pub has_room : (k e : ℕ) → e ≡ get_or free k 64 → e < 64 → ltb (length free) (suc k) ≡ false
-  has_room k e q h = le-ltb (length free) (suc k) (let g = get-below free k (omega arith) in omega arith)
+  pub has_room : (k : ℕ) (t : TileId) → first_slot (drop k free) ≡ Some t → ltb (length free) (suc k) ≡ false
+  has_room k t e = le-ltb (length free) (suc k) (let g = (get-below free k t e).0 in omega arith)
+
+  -- the slot that is there is the one that the rule takes
+  pub taken-is : (k : ℕ) (t : TileId) → first_slot (drop k free) ≡ Some t → t ≡ taken k a
+  taken-is k t e = (get-below free k t e).1
+
+  pub no_more : (k : ℕ) → first_slot (drop k free) ≡ None → length free ≤ k
+  no_more k e = get-past free k e
 
   pub free-inside : (k : ℕ) → All (λ i. i < 64) (drop k free)
   free-inside k = all_drop (λ i. i < 64) free (slots-inside a.nodes size) k
 
-  first-drop : (xs : List ℕ) (k : ℕ) → get_or xs k 64 ≡ first_of (drop k xs)
-  first-drop [] zero = refl
-  first-drop [] (suc k) = refl
-  first-drop (x ∷ xs) zero = refl
-  first-drop (x ∷ xs) (suc k) = first-drop xs k
-
-  pub spare-is : (k : ℕ) → get_or free k 64 ≡ first_of (drop k free)
-  spare-is k = first-drop free k
-
   -- no slot is left for what is needed
-  pub step-full : (s : Step) (d : Draft) (k e : ℕ) (fr : List ℕ) → s ≡ change d (suc k) fr → e ≡ get_or free k 64 → 64 ≤ e → finish a s ≡ refused ArenaFull a
-  step-full s d k e fr q w h =
-      ap (finish a) q
-      ∙ ap (λ (b : Bool). room_by b a (record { made = d; needed = suc k; free = fr }))
-      (lt-ltb (length free) (suc k) (let g = get-past free (slots-inside a.nodes size) k (omega arith) in omega arith))
+  pub step-full : (s : Step) (d : Draft) (k : ℕ) (fr : List ℕ) → s ≡ change d (suc k) fr → length free ≤ k → finish a s ≡ refused ArenaFull a
+  step-full s d k fr q h =
+      ap (finish a) q ∙ ap (λ (b : Bool). room_by b a (record { made = d; needed = suc k; free = fr })) (lt-ltb (length free) (suc k) (omega arith))
 
   -- a list would pass 16
   pub step-wide : (s : Step) (d : Draft) (k : ℕ) (fr : List ℕ) → s ≡ change d k fr → ltb (length free) k ≡ false → any_of wide_node d.nodes ≡ true → finish a s ≡ refused TooWide a
   step-wide s d k fr q h w =
       ap (finish a) q ∙ (λ z. room_by (h z) a (record { made = d; needed = k; free = fr })) ∙ (λ z. inserted_by (w z) a (record { made = d; needed = k; free = fr }))
 
-  pub step-goes : (s : Step) (d : Draft) (k : ℕ) (fr : List ℕ) (root spare : ℕ) (ns : List Node) → s ≡ change d k fr → d ≡ draft (tile root) ns → ltb (length free) k ≡ false → All (λ i. i < 64) fr → spare ≡ first_of fr
+  pub step-goes : (s : Step) (d : Draft) (k : ℕ) (fr : List ℕ) (root : ℕ) (spare : Maybe TileId) (ns : List Node) → s ≡ change d k fr → d ≡ draft (tile root) ns → ltb (length free) k ≡ false → All (λ i. i < 64) fr → spare ≡ first_slot fr
       → Makes a s root spare ns
   step-goes s d k fr root spare ns q m h i e = record { change = record { made = d; needed = k; free = fr }; step = q; made = m; room = h; inside = i; first = e }
 
   -- needing nothing new
-  pub step-only : (s : Step) (d : Draft) (root spare : ℕ) (ns : List Node) → s ≡ change d 0 free → d ≡ draft (tile root) ns → spare ≡ first_of free → Makes a s root spare ns
+  pub step-only : (s : Step) (d : Draft) (root : ℕ) (spare : Maybe TileId) (ns : List Node) → s ≡ change d 0 free → d ≡ draft (tile root) ns → spare ≡ first_slot free → Makes a s root spare ns
   step-only s d root spare ns q m e = step-goes s d 0 free root spare ns q m (le-ltb (length free) 0 (omega arith)) (slots-inside a.nodes size) e
 
 -- ---- the answer
@@ -124,33 +130,33 @@ module _ (a : Arena) (size : length a.nodes ≡ 64) where
 accepted-not : {A : Type 0} {x : Answer} {f : Refusal} → x ≡ Accepted → x ≡ Refused f → A
 accepted-not p q = absurd (let z : ◌≡◌ {A = ℕ} 0 1 = cc in omega arith)
 
-false-true : {A : Type 0} {x : Bool} → x ≡ false → x ≡ true → A
-false-true p q = absurd (let z : ◌≡◌ {A = ℕ} 0 1 = cc in omega arith)
+-- the root and the revision at the end: the arena's own where nothing changed
+abbrev pub ended : Result (Maybe AppliedIn) Refusal → Arena → AppliedIn
+ended r a = unwrap_or (result_unwrap_or r None) (record { root = a.root.slot; revision = a.revision })
 
-module _ (a : Arena) (x : Applied) (r : AppliedIn) (hs xs : List (List ℕ)) (ss ms : List (List Float)) where
-  -- a refusal, with the arena as it was
-  pub comes-refused : (e : Refusal) → x ≡ refused e a → r.answer ≡ Refused e → r.changed ≡ false → Comes a x r hs xs ss ms
-  comes-refused e q ra rc =
-      record {
-        answer = ra ∙ sym (ap (λ (y : Applied). y.answer) q);
-        tree = λ w. accepted-not w ra;
-        given = λ w. ap (λ (y : Applied). y.tree) q;
-        taken = λ w. false-true rc w;
-      }
+module _ (a : Arena) (x : Applied) (hs xs : List (List ℕ)) (ss ms : List (List Float)) where
+  pub comes-answer : (r : Result (Maybe AppliedIn) Refusal) → Comes a x r hs xs ss ms → answered r ≡ x.answer
+  comes-answer (Err e) C = sym (ap (λ (y : Applied). y.answer) C)
+  comes-answer (Ok None) C = sym (ap (λ (y : Applied). y.answer) C.0)
+  comes-answer (Ok (Some d)) C = sym (ap (λ (y : Applied). y.answer) C.0)
 
-  -- nothing changed
-  pub comes-same : x ≡ accepted a → r.answer ≡ Accepted → r.changed ≡ false → a ≡ arena_from r.root r.revision hs xs ss ms → Even hs xs ss ms → Comes a x r hs xs ss ms
-  comes-same q ra rc e E =
-      record {
-        answer = ra ∙ sym (ap (λ (y : Applied). y.answer) q);
-        tree = λ w. (ap (λ (y : Applied). y.tree) q ∙ e, E);
-        given = λ w. ap (λ (y : Applied). y.tree) q;
-        taken = λ w. ra;
-      }
+  -- what the columns show at the end
+  pub comes-tree : (r : Result (Maybe AppliedIn) Refusal) → Comes a x r hs xs ss ms → x.answer ≡ Accepted → x.tree ≡ arena_from (ended r a).root (ended r a).revision hs xs ss ms
+  comes-tree (Err e) C q = accepted-not q (ap (λ (y : Applied). y.answer) C)
+  comes-tree (Ok None) C q = ap (λ (y : Applied). y.tree) C.0 ∙ C.1
+  comes-tree (Ok (Some d)) C q = ap (λ (y : Applied). y.tree) C.0
 
-  -- another tree
-  pub comes-new : x.answer ≡ Accepted → r.answer ≡ Accepted → r.changed ≡ true → (v : ℕ) → x.tree ≡ arena_from r.root v hs xs ss ms → v ≡ r.revision → Even hs xs ss ms → Comes a x r hs xs ss ms
-  comes-new xa ra rc v e q E = record { answer = ra ∙ sym xa; tree = λ w. (e ∙ ap (λ (n : ℕ). arena_from r.root n hs xs ss ms) q, E); given = λ w. false-true w rc; taken = λ w. ra }
+  pub comes-given : (r : Result (Maybe AppliedIn) Refusal) → Comes a x r hs xs ss ms → result_unwrap_or r None ≡ None → x.tree ≡ a
+  comes-given (Err e) C q = ap (λ (y : Applied). y.tree) C
+  comes-given (Ok None) C q = ap (λ (y : Applied). y.tree) C.0
+  comes-given (Ok (Some d)) C q = absurd (let z : ◌≡◌ {A = ℕ} 0 1 = cc in omega arith)
+
+  pub comes-made : (r : Result (Maybe AppliedIn) Refusal) (d : AppliedIn) → Comes a x r hs xs ss ms → result_unwrap_or r None ≡ Some d → (x ≡ accepted (arena_from d.root d.revision hs xs ss ms)) × Even hs xs ss ms
+  comes-made (Err e) d C q = absurd (let z : ◌≡◌ {A = ℕ} 0 1 = cc in omega arith)
+  comes-made (Ok None) d C q = absurd (let z : ◌≡◌ {A = ℕ} 0 1 = cc in omega arith)
+  comes-made (Ok (Some c)) d C q =
+      let k : c ≡ d = cc in
+      subst (λ (y : AppliedIn). (x ≡ accepted (arena_from y.root y.revision hs xs ss ms)) × Even hs xs ss ms) k C
 
 -- ---- a change, with the next revision and repaired
 
@@ -171,7 +177,7 @@ module _ (a b : Arena) (next : b.revision ≡ suc a.revision) where
   refused_as none x f e q = ap (λ (y : Answer). record { answer = y; tree = a }) (sym q ∙ ap (λ (y : Repaired). y.answer) e)
   refused_as (some n) x f e q = refused-by (any_of wide_node n.nodes) n x f e q
 
-module _ (hs xs : List (List ℕ)) (ss ms : List (List Float)) (E : Even hs xs ss ms) (a : Arena) (s : Step) (top spare : ℕ) (M : Makes a s top spare (nodes_from hs xs ss ms)) where
+module _ (hs xs : List (List ℕ)) (ss ms : List (List Float)) (E : Even hs xs ss ms) (a : Arena) (s : Step) (top : ℕ) (spare : Maybe TileId) (M : Makes a s top spare (nodes_from hs xs ss ms)) where
   abbrev c : Change
   c = M.change
 

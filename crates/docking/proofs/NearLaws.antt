@@ -3,6 +3,8 @@ use mathlib.Core.Path.{◌≡◌, refl, sym, ap, subst, ◌∙◌}
 use mathlib.Core.Bool.{Bool, true, false, ◌||◌}
 use mathlib.Core.List.{List, [], ◌∷◌}
 use mathlib.Core.Option.{Option, none, some}
+use Rattle.std.specs.Prelude.{◌⊎◌, Some, None}
+use Rattle.std.proofs.Common.{inl, inr}
 use Prim.Native.Nat.{ℕ, zero, suc, ◌≤◌, ◌<◌}
 use native.Mathlib.Omega.{arith}
 use borrow.Author.Tests.{lt-ltb, eq-eqb, ne_eqb}
@@ -28,12 +30,12 @@ use Rattle.rules.specs.declared.refusal.Refusal.TheVariants.{ArenaFull, TooWide,
 use Rattle.lists.specs.Places.{length-insert_at}
 use Rattle.nodes.specs.Find.{scan_parent, scan-holds}
 use Rattle.docking.specs.Near.{alike-kids, alike-scan, alike_same, taken-empty, like-first, set_first, set_both, near-absent, near-loose, near-in, near-root, near-under}
-use Rattle.nodes.specs.Parts.{beside_of, Rows}
+use Rattle.nodes.specs.Parts.{beside_of, Spared}
 use Rattle.docking.specs.Steps.{Fits, Nears, Makes, parent_at, Within, Rooted, Under}
 use Rattle.nodes.specs.declared.Beside.{Beside}
 use Rattle.nodes.specs.declared.Spares.{Spares}
 use Rattle.nodes.proofs.SlotLaws.{bare-view, split-few}
-use Rattle.docking.proofs.FinishLaws.{step-full, step-wide, step-goes, has_room, free-inside, spare-is, wide-set}
+use Rattle.docking.proofs.FinishLaws.{step-full, step-wide, step-goes, has_room, taken-is, no_more, free-inside, wide-set}
 
 -- ---- what has children is a split, in a slot
 
@@ -61,8 +63,8 @@ split-bounds s i o h =
 wide-kids : (x : Axis) (cs : List TileId) (ss rs : List Float) → ltb 16 (length cs) ≡ true → wide_node (split x cs ss rs) ≡ true
 wide-kids x cs ss rs e = ap (λ (b : Bool). b || ltb 16 (length ss) || ltb 16 (length rs)) e
 
-pub grown-wide : (s : Slot) (i : ℕ) (b : Insert.Beside) (new : TileId) → Rows s → i < length (kids_of (view_slot s)) → 16 ≤ s.children.len → wide_node (inserted_in b new i (view_slot s)) ≡ true
-grown-wide s i b new R h w =
+pub grown-wide : (s : Slot) (i : ℕ) (b : Insert.Beside) (new : TileId) → length s.children.at ≡ 16 → i < length (kids_of (view_slot s)) → 16 ≤ s.children.len → wide_node (inserted_in b new i (view_slot s)) ≡ true
+grown-wide s i b new there h w =
     kinded s s.kind i h
     (λ x e.
     ap (λ (n : Node). wide_node (inserted_in b new i n)) (bare-view s (Split x) e)
@@ -75,7 +77,12 @@ grown-wide s i b new R h w =
     cs = tiles s.children
 
     many : ltb 16 (length (insert_at p new cs)) ≡ true
-    many = lt-ltb 16 (length (insert_at p new cs)) (omega (arith, length-insert_at p new cs, length-take s.children.len s.children.at, R.children))
+    many = lt-ltb 16 (length (insert_at p new cs)) (omega (arith, length-insert_at p new cs, length-take s.children.len s.children.at, there))
+
+-- one slot at most is left
+none_two : (a : Arena) → length a.nodes ≡ 64 → (room : Spares) → Spared room a.nodes → (room.first ≡ None) ⊎ (room.second ≡ None) → length (empty_slots a.nodes) ≤ 1
+none_two a size room S (inl e) = let h = no_more a size 0 (sym S.first ∙ e) in omega arith
+none_two a size room S (inr e) = no_more a size 1 (sym S.second ∙ e)
 
 module _ (root : ℕ) (room : Spares) (ms : List Node) (new : Node) (b : Beside) (a : Arena) where
   abbrev ns : List Node
@@ -119,8 +126,14 @@ module _ (root : ℕ) (room : Spares) (ms : List Node) (new : Node) (b : Beside)
     abbrev with_new : List Node
     with_new = set_first a size ms F.taken.alike new F.leaf (beside_of b) p found
 
-    new_is : (made : List Node) → made ≡ set_node (tile room.first) new ms → made ≡ with_new
-    new_is made m = m ∙ ap (λ (k : ℕ). set_node (tile k) new ms) F.taken.spared.first
+    first_is : (t : TileId) → room.first ≡ Some t → t ≡ taken 0 a
+    first_is t e = taken-is a size 0 t (sym F.taken.spared.first ∙ e)
+
+    second_is : (t : TileId) → room.second ≡ Some t → t ≡ taken 1 a
+    second_is t e = taken-is a size 1 t (sym F.taken.spared.second ∙ e)
+
+    new_is : (t : TileId) → room.first ≡ Some t → (made : List Node) → made ≡ set_node t new ms → made ≡ with_new
+    new_is t e made m = m ∙ ap (λ (x : TileId). set_node x new ms) (first_is t e)
 
     root_is : (k : ℕ) → k ≡ root → same_tile (tile k) a.root ≡ true
     root_is k e = eq-eqb k a.root.slot (e ∙ sym F.taken.under)
@@ -156,12 +169,12 @@ module _ (root : ℕ) (room : Spares) (ms : List Node) (new : Node) (b : Beside)
     in_is : step ≡ change (draft a.root grown) 1 (drop 1 free)
     in_is = near-in a (size q N) ms N.fits.taken.alike new N.fits.leaf (beside_of b) q (found q N) N.there (parent_at sp i) refl W.1
 
-    pub put-in-full : 64 ≤ room.first → finish a step ≡ refused ArenaFull a
-    put-in-full h = step-full a (size q N) step (draft a.root grown) 0 room.first (drop 1 free) in_is N.fits.taken.spared.first h
+    pub put-in-full : room.first ≡ None → finish a step ≡ refused ArenaFull a
+    put-in-full h = step-full a (size q N) step (draft a.root grown) 0 (drop 1 free) in_is (no_more a (size q N) 0 (sym N.fits.taken.spared.first ∙ h))
 
-    module _ (made : List Node) (m : made ≡ set_node (tile room.first) new ms) (s : Slot) (o : view_slot s ≡ node_at made sp) where
+    module _ (t : TileId) (e : room.first ≡ Some t) (made : List Node) (m : made ≡ set_node t new ms) (s : Slot) (o : view_slot s ≡ node_at made sp) where
       same : view_slot s ≡ node_at (with_new q N) sp
-      same = o ∙ ap (λ (l : List Node). node_at l sp) (new_is q N made m)
+      same = o ∙ ap (λ (l : List Node). node_at l sp) (new_is q N t e made m)
 
       placed : i < length (kids_of (node_at (with_new q N) sp))
       placed =
@@ -172,18 +185,20 @@ module _ (root : ℕ) (room : Spares) (ms : List Node) (new : Node) (b : Beside)
       pub put_in_place : i < length (kids_of (view_slot s))
       put_in_place = subst (λ (n : Node). i < length (kids_of n)) (sym same) placed
 
-      module _ (h : room.first < 64) where
-        pub put-in-wide : Rows s → 16 ≤ s.children.len → finish a step ≡ refused TooWide a
-        put-in-wide R w =
-            step-wide a (size q N) step (draft a.root grown) 1 (drop 1 free) in_is (has_room a (size q N) 0 room.first N.fits.taken.spared.first h)
-            (wide-set (with_new q N) sp.slot (inserted_in (beside_of b) (taken 0 a) i (node_at (with_new q N) sp)) (inside (with_new q N) sp.slot i placed)
-            (ap (λ (n : Node). wide_node (inserted_in (beside_of b) (taken 0 a) i n)) (sym same) ∙ grown-wide s i (beside_of b) (taken 0 a) R put_in_place w))
+      roomy : ltb (length free) 1 ≡ false
+      roomy = has_room a (size q N) 0 t (sym N.fits.taken.spared.first ∙ e)
 
-        pub put-in-goes : (n : Node) (done : List Node) → n ≡ inserted_in (beside_of b) (tile room.first) i (view_slot s) → done ≡ set_node sp n made → Makes a step root room.second done
-        put-in-goes n done x y =
-            step-goes a (size q N) step (draft a.root grown) 1 (drop 1 free) root room.second done in_is
-            (λ j. draft (tile (N.fits.taken.under j)) (sym (y ∙ (λ j. set_node sp ((x ∙ (λ k. inserted_in (beside_of b) (tile (N.fits.taken.spared.first k)) i (same k))) j) (new_is q N made m j))) j))
-            (has_room a (size q N) 0 room.first N.fits.taken.spared.first h) (free-inside a (size q N) 1) (N.fits.taken.spared.second ∙ spare-is a (size q N) 1)
+      pub put-in-wide : length s.children.at ≡ 16 → 16 ≤ s.children.len → finish a step ≡ refused TooWide a
+      put-in-wide R w =
+          step-wide a (size q N) step (draft a.root grown) 1 (drop 1 free) in_is roomy
+          (wide-set (with_new q N) sp.slot (inserted_in (beside_of b) (taken 0 a) i (node_at (with_new q N) sp)) (inside (with_new q N) sp.slot i placed)
+          (ap (λ (n : Node). wide_node (inserted_in (beside_of b) (taken 0 a) i n)) (sym same) ∙ grown-wide s i (beside_of b) (taken 0 a) R put_in_place w))
+
+      pub put-in-goes : (n : Node) (done : List Node) → n ≡ inserted_in (beside_of b) t i (view_slot s) → done ≡ set_node sp n made → Makes a step root room.second done
+      put-in-goes n done x y =
+          step-goes a (size q N) step (draft a.root grown) 1 (drop 1 free) root room.second done in_is
+          (λ j. draft (tile (N.fits.taken.under j)) (sym (y ∙ (λ j. set_node sp ((x ∙ (λ k. inserted_in (beside_of b) (first_is q N t e k) i (same k))) j) (new_is q N t e made m j))) j))
+          roomy (free-inside a (size q N) 1) N.fits.taken.spared.second
 
   -- ---- a new split of the two
 
@@ -191,10 +206,11 @@ module _ (root : ℕ) (room : Spares) (ms : List Node) (new : Node) (b : Beside)
     abbrev with_both : List Node
     with_both = set_both a (size p N) ms N.fits.taken.alike new N.fits.leaf (beside_of b) p (found p N) N.there
 
-    both_is : (made : List Node) → made ≡ set_node (tile room.first) new ms → (n : Node) → n ≡ new_split (beside_of b) (tile room.first) b.placement
-        → (done : List Node) → done ≡ set_node (tile room.second) n made → done ≡ with_both
-    both_is made m n x done y =
-        y ∙ (λ z. set_node (tile (N.fits.taken.spared.second z)) ((x ∙ ap (λ (k : ℕ). new_split (beside_of b) (tile k) b.placement) N.fits.taken.spared.first) z) (new_is p N made m z))
+    -- the two slots that are taken
+    module _ (t u : TileId) (e : room.first ≡ Some t) (f : room.second ≡ Some u) where
+      both_is : (made : List Node) → made ≡ set_node t new ms → (n : Node) → n ≡ new_split (beside_of b) t b.placement → (done : List Node) → done ≡ set_node u n made → done ≡ with_both
+      both_is made m n x done y =
+          y ∙ (λ z. set_node (second_is p N u f z) ((x ∙ ap (λ (k : TileId). new_split (beside_of b) k b.placement) (first_is p N t e)) z) (new_is p N t e made m z))
 
   module _ (sp : TileId) (i : ℕ) (W : Under root room ms new b sp i a) where
     abbrev hq : Option Parent
@@ -209,8 +225,8 @@ module _ (root : ℕ) (room : Spares) (ms : List Node) (new : Node) (b : Beside)
     under-is : step ≡ change (draft a.root swapped) 2 (drop 2 free)
     under-is = near-under a (size hq M) ms M.fits.taken.alike new M.fits.leaf (beside_of b) hq (found hq M) M.there W.1 (parent_at sp i) refl W.2
 
-    pub put-under-full : 64 ≤ room.second → finish a step ≡ refused ArenaFull a
-    put-under-full h = step-full a (size hq M) step (draft a.root swapped) 1 room.second (drop 2 free) under-is M.fits.taken.spared.second h
+    pub put-under-full : (room.first ≡ None) ⊎ (room.second ≡ None) → finish a step ≡ refused ArenaFull a
+    put-under-full h = step-full a (size hq M) step (draft a.root swapped) 1 (drop 2 free) under-is (none_two a (size hq M) room M.fits.taken.spared h)
 
     -- the parent has children, so its slot is not the one that the new split takes
     apart : sp.slot ≡ get_or free 1 64 → ⊥
@@ -219,10 +235,10 @@ module _ (root : ℕ) (room : Spares) (ms : List Node) (new : Node) (b : Beside)
         let k : get_or ns sp.slot empty ≡ empty = ap (λ (j : ℕ). get_or ns j empty) e ∙ taken-empty ns (size hq M) 1 in
         let g : i < length (kids_of empty) = subst (λ (n : Node). i < length (kids_of n)) k h in omega arith
 
-    module _ (made : List Node) (m : made ≡ set_node (tile room.first) new ms) (n : Node) (x : n ≡ new_split (beside_of b) (tile room.first) b.placement)
-        (more : List Node) (y : more ≡ set_node (tile room.second) n made) (s : Slot) (o : view_slot s ≡ node_at more sp) where
+    module _ (t u : TileId) (e : room.first ≡ Some t) (f : room.second ≡ Some u) (made : List Node) (m : made ≡ set_node t new ms) (n : Node) (x : n ≡ new_split (beside_of b) t b.placement)
+        (more : List Node) (y : more ≡ set_node u n made) (s : Slot) (o : view_slot s ≡ node_at more sp) where
       both : more ≡ with_both hq M
-      both = both_is hq M made m n x more y
+      both = both_is hq M t u e f made m n x more y
 
       pub put-under-place : i < length (kids_of (view_slot s))
       put-under-place =
@@ -232,11 +248,11 @@ module _ (root : ℕ) (room : Spares) (ms : List Node) (new : Node) (b : Beside)
           (sym (alike-kids ns (with_new hq M) (like-first a (size hq M) ms M.fits.taken.alike new M.fits.leaf (beside_of b) hq (found hq M)) sp.slot))
           (scan-holds ns b.target (parent_at sp i) (sym M.holder)))
 
-      pub put-under-goes : room.second < 64 → (w : Node) → w ≡ replaced_in (tile room.second) i (view_slot s) → (done : List Node) → done ≡ set_node sp w more → Makes a step root room.third done
-      put-under-goes h w u done v =
+      pub put-under-goes : (w : Node) → w ≡ replaced_in u i (view_slot s) → (done : List Node) → done ≡ set_node sp w more → Makes a step root room.third done
+      put-under-goes w g done v =
           step-goes a (size hq M) step (draft a.root swapped) 2 (drop 2 free) root room.third done under-is
-          (λ j. draft (tile (M.fits.taken.under j)) (sym (v ∙ (λ j. set_node sp ((u ∙ (λ k. replaced_in (tile (M.fits.taken.spared.second k)) i ((o ∙ ap (λ (l : List Node). node_at l sp) both) k))) j) (both j))) j))
-          (has_room a (size hq M) 1 room.second M.fits.taken.spared.second h) (free-inside a (size hq M) 2) (M.fits.taken.spared.third ∙ spare-is a (size hq M) 2)
+          (λ j. draft (tile (M.fits.taken.under j)) (sym (v ∙ (λ j. set_node sp ((g ∙ (λ k. replaced_in (second_is hq M u f k) i ((o ∙ ap (λ (l : List Node). node_at l sp) both) k))) j) (both j))) j))
+          (has_room a (size hq M) 1 u (sym M.fits.taken.spared.second ∙ f)) (free-inside a (size hq M) 2) M.fits.taken.spared.third
 
 -- at the root
 module _ (room : Spares) (ms : List Node) (new : Node) (b : Beside) (a : Arena) (W : Rooted room ms new b a) where
@@ -254,13 +270,13 @@ module _ (room : Spares) (ms : List Node) (new : Node) (b : Beside) (a : Arena) 
       let (r, p, N, e, s) = W in
       near-root a (size r room ms new b a p N) ms N.fits.taken.alike new N.fits.leaf (beside_of b) p (found r room ms new b a p N) N.there e s
 
-  pub put-over-full : 64 ≤ room.second → finish a top ≡ refused ArenaFull a
-  put-over-full h = step-full a wide top (draft (taken 1 a) L) 1 room.second (drop 2 (empty_slots a.nodes)) over-is W.2.fits.taken.spared.second h
+  pub put-over-full : (room.first ≡ None) ⊎ (room.second ≡ None) → finish a top ≡ refused ArenaFull a
+  put-over-full h = step-full a wide top (draft (taken 1 a) L) 1 (drop 2 (empty_slots a.nodes)) over-is (none_two a wide room W.2.fits.taken.spared h)
 
-  pub put-over-goes : room.second < 64 → (made : List Node) → made ≡ set_node (tile room.first) new ms → (n : Node) → n ≡ new_split (beside_of b) (tile room.first) b.placement
-      → (done : List Node) → done ≡ set_node (tile room.second) n made → Makes a top room.second room.third done
-  put-over-goes h made m n x done y =
+  pub put-over-goes : (t u : TileId) (e : room.first ≡ Some t) (f : room.second ≡ Some u) (made : List Node) → made ≡ set_node t new ms → (n : Node) → n ≡ new_split (beside_of b) t b.placement
+      → (done : List Node) → done ≡ set_node u n made → Makes a top u.slot room.third done
+  put-over-goes t u e f made m n x done y =
       let T = W.2.fits.taken in
-      step-goes a wide top (draft (taken 1 a) L) 2 (drop 2 (empty_slots a.nodes)) room.second room.third done over-is
-      (λ j. draft (tile (sym T.spared.second j)) (sym (both_is W.0 room ms new b a W.1 W.2 made m n x done y) j))
-      (has_room a wide 1 room.second T.spared.second h) (free-inside a wide 2) (T.spared.third ∙ spare-is a wide 2)
+      step-goes a wide top (draft (taken 1 a) L) 2 (drop 2 (empty_slots a.nodes)) u.slot room.third done over-is
+      (λ j. draft (sym (second_is W.0 room ms new b a W.1 W.2 u f) j) (sym (both_is W.0 room ms new b a W.1 W.2 t u e f made m n x done y) j))
+      (has_room a wide 1 u (sym T.spared.second ∙ f)) (free-inside a wide 2) T.spared.third

@@ -1,26 +1,26 @@
 -- What the calls of this crate promise: their answers as the rules have them. Definitions only.
-use Rattle.std.specs.Prelude.{◌≡◌, true, false, List, ℕ, ◌≤◌, ◌<◌, ltb, length, Float}
+use Rattle.std.specs.Prelude.{◌≡◌, true, false, List, ℕ, ◌≤◌, ◌<◌, ltb, length, Float, Option as Maybe, Some, None, Result, Ok, Err}
 use Rattle.std.proofs.Math.Option.{Option, some}
 use Rattle.rules.specs.Tree.{Node, empty, pane, tabs, split, Arena, tile, node_at, empty_slots, is_empty, same_tile, view}
 use Rattle.rules.specs.Target.{find_pane, Parent, find_parent, panes_in}
 use Rattle.rules.specs.Insert as Insert
 use Rattle.rules.specs.Insert.{draft}
-use Rattle.rules.specs.Operations.{Change, Step, refuse, unchanged, changed, reorder_from, Applied, refused, finish}
+use Rattle.rules.specs.Operations.{Change, Step, refuse, unchanged, changed, reorder_from, Applied, accepted, refused, finish}
 use Rattle.rules.specs.declared.model.TileId.{TileId}
-use Rattle.rules.specs.Refusals as Answers
+use Rattle.rules.specs.Refusals.{Answer, Accepted, Refused}
+use Rattle.rules.specs.declared.refusal.Refusal.{Refusal}
 use Rattle.rules.specs.declared.refusal.Refusal.TheVariants.{InvalidTileId}
 use Rattle.nodes.specs.declared.Beside.{Beside}
 use Rattle.nodes.specs.declared.Spares.{Spares}
 use Rattle.docking.specs.declared.Applying.{Applying}
 use Rattle.docking.specs.declared.AppliedIn.{AppliedIn}
-use Rattle.docking.specs.declared.Stepped.{Stepped}
-use Rattle.docking.specs.declared.Stepped.TheVariants.{Refused, Unchanged, Changed}
+use Rattle.docking.specs.declared.Changed.{Changed}
 use Rattle.forest.specs.Lists.{All}
 use Rattle.columns.specs.Columns.{nodes_from}
-use Rattle.columns.specs.Pack.{first_of, Even}
+use Rattle.columns.specs.Pack.{Even}
 use Rattle.columns.specs.Shown.{arena_from}
 use Rattle.nodes.specs.Find.{scan_pane, scan_parent, is_split}
-use Rattle.nodes.specs.Parts.{Spared}
+use Rattle.nodes.specs.Parts.{first_slot, Spared}
 use Rattle.docking.specs.Near.{Alike}
 
 -- what a sound tree has: a scan of its slots finds what a walk from the root finds
@@ -37,21 +37,26 @@ applied r = record { answer = r.answer; tree = view r.tree }
 -- ---- what a step comes to, before the revision and the repair
 
 -- a change, with room for what it needs: these slots under this root, and the first of the slots that are left to it
-pub record Makes (a : Arena) (s : Step) (root spare : ℕ) (ns : List Node) : Type 0 where
+pub record Makes (a : Arena) (s : Step) (root : ℕ) (spare : Maybe TileId) (ns : List Node) : Type 0 where
   pub change : Change
   pub step : s ≡ changed change
   pub made : change.made ≡ draft (tile root) ns
   pub room : ltb (length (empty_slots a.nodes)) change.needed ≡ false
   pub inside : All (λ i. i < 64) change.free
-  pub first : spare ≡ first_of change.free
+  pub first : spare ≡ first_slot change.free
 
-abbrev pub Steps : Arena → Step → Stepped → List Node → Type 0
-Steps a s (Refused e) ns = finish a s ≡ refused e a
-Steps a s Unchanged ns = (s ≡ unchanged) × (ns ≡ a.nodes)
-Steps a s (Changed root spare) ns = Makes a s root spare ns
+abbrev pub Steps : Arena → Step → Result (Maybe Changed) Refusal → List Node → Type 0
+Steps a s (Err e) ns = finish a s ≡ refused e a
+Steps a s (Ok None) ns = (s ≡ unchanged) × (ns ≡ a.nodes)
+Steps a s (Ok (Some c)) ns = Makes a s c.root c.spare ns
+
+-- a step that is never without a change
+abbrev pub always : {A : Type 0} → Result A Refusal → Result (Maybe A) Refusal
+always (Err e) = Err e
+always (Ok c) = Ok (Some c)
 
 -- the step that a rule says of the arena that columns show, whatever its revision; and the columns stay columns of 64 rows whose lists are all there
-pub record Does (root : ℕ) (f : Arena → Step) (r : Stepped) (hs xs : List (List ℕ)) (ss ms : List (List Float)) (hs' xs' : List (List ℕ)) (ss' ms' : List (List Float)) : Type 0 where
+pub record Does (root : ℕ) (f : Arena → Step) (r : Result (Maybe Changed) Refusal) (hs xs : List (List ℕ)) (ss ms : List (List Float)) (hs' xs' : List (List ℕ)) (ss' ms' : List (List Float)) : Type 0 where
   pub even : Even hs' xs' ss' ms'
   pub steps : (v : ℕ) → Steps (arena_from root v hs xs ss ms) (f (arena_from root v hs xs ss ms)) r (nodes_from hs' xs' ss' ms')
 
@@ -70,9 +75,9 @@ pub record Taken (root : ℕ) (room : Spares) (ms : List Node) (a : Arena) : Typ
   pub alike : Alike a.nodes ms
 
 -- the same step of every arena out of which the slots may have come
-pub record Puts (T : Arena → Type 0) (f : Arena → Step) (r : Stepped) (hs' xs' : List (List ℕ)) (ss' ms' : List (List Float)) : Type 0 where
+pub record Puts (T : Arena → Type 0) (f : Arena → Step) (r : Result Changed Refusal) (hs' xs' : List (List ℕ)) (ss' ms' : List (List Float)) : Type 0 where
   pub even : Even hs' xs' ss' ms'
-  pub steps : (a : Arena) → T a → Steps a (f a) r (nodes_from hs' xs' ss' ms')
+  pub steps : (a : Arena) → T a → Steps a (f a) (always r) (nodes_from hs' xs' ss' ms')
 
 -- ---- a tile put beside another
 
@@ -113,9 +118,13 @@ reorder_as o (split x cs ss ms) a g p i = refuse InvalidTileId
 
 -- ---- the whole call
 
--- the answer and the tree of an arena's call: an accepted one is what the columns show at the end, and where nothing changed the tree is the arena
-pub record Comes (a : Arena) (x : Applied) (r : AppliedIn) (hs' xs' : List (List ℕ)) (ss' ms' : List (List Float)) : Type 0 where
-  pub answer : r.answer ≡ x.answer
-  pub tree : r.answer ≡ Answers.Accepted → (x.tree ≡ arena_from r.root r.revision hs' xs' ss' ms') × Even hs' xs' ss' ms'
-  pub given : r.changed ≡ false → x.tree ≡ a
-  pub taken : r.changed ≡ true → r.answer ≡ Answers.Accepted
+-- the answer alone
+abbrev pub answered : Result (Maybe AppliedIn) Refusal → Answer
+answered (Ok d) = Accepted
+answered (Err e) = Refused e
+
+-- the answer and the tree of an arena's call: a refusal with the arena; the arena, which the columns show at the end; or another tree, which they show
+abbrev pub Comes : Arena → Applied → Result (Maybe AppliedIn) Refusal → List (List ℕ) → List (List ℕ) → List (List Float) → List (List Float) → Type 0
+Comes a x (Err e) hs' xs' ss' ms' = x ≡ refused e a
+Comes a x (Ok None) hs' xs' ss' ms' = (x ≡ accepted a) × (a ≡ arena_from a.root.slot a.revision hs' xs' ss' ms') × Even hs' xs' ss' ms'
+Comes a x (Ok (Some d)) hs' xs' ss' ms' = (x ≡ accepted (arena_from d.root d.revision hs' xs' ss' ms')) × Even hs' xs' ss' ms'

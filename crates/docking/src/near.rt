@@ -9,7 +9,7 @@ ghost use Rattle.columns.specs.Pack.{Even};
 ghost use Rattle.nodes.specs.Parts.{holder_of, beside_of};
 ghost use Rattle.docking.specs.Steps.{Puts, Fits, Apart, Within, Rooted, Under};
 
-use crate::Stepped;
+use crate::Changed;
 use nodes::{Beside, Holder, Spares, find, slots};
 use parting::splits;
 use rules::model::{Axis, Slot, TileId};
@@ -21,16 +21,16 @@ fn same_axis_parent(
     ids: &[[u64; 16]; 64],
     shares: &[[f64; 16]; 64],
     minima: &[[f64; 16]; 64],
-    parent: Holder,
+    parent: Option<Holder>,
     axis: Axis,
 ) -> bool
     requires { Even heads.now ids.now shares.now minima.now }
     ensures { result ≡ same_axis_parent axis (holder_of parent) (nodes_from heads.now ids.now shares.now minima.now) }
 {
     match parent {
-        Holder::Nothing => false,
-        Holder::In { split, index: _ } => {
-            let s = slots::get_node(heads, ids, shares, minima, split);
+        None => false,
+        Some(p) => {
+            let s = slots::get_node(heads, ids, shares, minima, p.split);
             splits::has_axis(s, axis)
         }
     }
@@ -48,27 +48,25 @@ fn put_in(
     ids: &mut [[u64; 16]; 64],
     shares: &mut [[f64; 16]; 64],
     minima: &mut [[f64; 16]; 64],
-) -> Stepped
-    requires { Even heads.old ids.old shares.old minima.old × (over_slot new ≡ false) × ((a : Arena) × Within root room (nodes_from heads.old ids.old shares.old minima.old) (view_slot new) b split index a) }
+) -> Result<Changed, Refusal>
+    requires even { Even heads.old ids.old shares.old minima.old }
+    requires whole { over_slot new ≡ false }
+    requires from { (a : Arena) × Within root room (nodes_from heads.old ids.old shares.old minima.old) (view_slot new) b split index a }
     ensures { Puts (Within root room (nodes_from heads.old ids.old shares.old minima.old) (view_slot new) b split index) (λ (a : Arena). put_near a (view_slot new) (beside_of b) (draft a.root (nodes_from heads.old ids.old shares.old minima.old))) result heads.new ids.new shares.new minima.new }
 {
-    if 64 <= room.first {
-        return Stepped::Refused(Refusal::ArenaFull);
-    }
-    let inserted = TileId { slot: room.first };
+    let inserted = room.first.ok_or(Refusal::ArenaFull)?;
     slots::set_node(heads, ids, shares, minima, inserted, new);
     let s = slots::get_node(heads, ids, shares, minima, split);
-    slots::rows(s);
     let children = s.children;
     if 16 <= children.len {
-        return Stepped::Refused(Refusal::TooWide);
+        return Err(Refusal::TooWide);
     }
     let grown = splits::inserted_in(s, b, inserted, index);
     slots::set_node(heads, ids, shares, minima, split, grown);
-    Stepped::Changed {
+    Ok(Changed {
         root,
         spare: room.second,
-    }
+    })
 }
 
 // At the root: a new split of the two becomes the root.
@@ -80,22 +78,20 @@ fn put_over(
     ids: &mut [[u64; 16]; 64],
     shares: &mut [[f64; 16]; 64],
     minima: &mut [[f64; 16]; 64],
-) -> Stepped
-    requires { Even heads.old ids.old shares.old minima.old × (over_slot new ≡ false) }
+) -> Result<Changed, Refusal>
+    requires even { Even heads.old ids.old shares.old minima.old }
+    requires whole { over_slot new ≡ false }
     ensures { Puts (Rooted room (nodes_from heads.old ids.old shares.old minima.old) (view_slot new) b) (λ (a : Arena). put_near a (view_slot new) (beside_of b) (draft a.root (nodes_from heads.old ids.old shares.old minima.old))) result heads.new ids.new shares.new minima.new }
 {
-    if 64 <= room.second {
-        return Stepped::Refused(Refusal::ArenaFull);
-    }
-    let inserted = TileId { slot: room.first };
-    let top = TileId { slot: room.second };
+    let inserted = room.first.ok_or(Refusal::ArenaFull)?;
+    let top = room.second.ok_or(Refusal::ArenaFull)?;
     slots::set_node(heads, ids, shares, minima, inserted, new);
     let both = splits::new_split(b, inserted);
     slots::set_node(heads, ids, shares, minima, top, both);
-    Stepped::Changed {
-        root: room.second,
+    Ok(Changed {
+        root: top.slot,
         spare: room.third,
-    }
+    })
 }
 
 // In a parent of the other axis: a new split of the two takes the target's place, which keeps its share and minimum.
@@ -110,25 +106,24 @@ fn put_under(
     ids: &mut [[u64; 16]; 64],
     shares: &mut [[f64; 16]; 64],
     minima: &mut [[f64; 16]; 64],
-) -> Stepped
-    requires { Even heads.old ids.old shares.old minima.old × (over_slot new ≡ false) × ((a : Arena) × Under root room (nodes_from heads.old ids.old shares.old minima.old) (view_slot new) b split index a) }
+) -> Result<Changed, Refusal>
+    requires even { Even heads.old ids.old shares.old minima.old }
+    requires whole { over_slot new ≡ false }
+    requires from { (a : Arena) × Under root room (nodes_from heads.old ids.old shares.old minima.old) (view_slot new) b split index a }
     ensures { Puts (Under root room (nodes_from heads.old ids.old shares.old minima.old) (view_slot new) b split index) (λ (a : Arena). put_near a (view_slot new) (beside_of b) (draft a.root (nodes_from heads.old ids.old shares.old minima.old))) result heads.new ids.new shares.new minima.new }
 {
-    if 64 <= room.second {
-        return Stepped::Refused(Refusal::ArenaFull);
-    }
-    let inserted = TileId { slot: room.first };
-    let held = TileId { slot: room.second };
+    let inserted = room.first.ok_or(Refusal::ArenaFull)?;
+    let held = room.second.ok_or(Refusal::ArenaFull)?;
     slots::set_node(heads, ids, shares, minima, inserted, new);
     let both = splits::new_split(b, inserted);
     slots::set_node(heads, ids, shares, minima, held, both);
     let s = slots::get_node(heads, ids, shares, minima, split);
     let swapped = splits::replaced_in(s, held, index);
     slots::set_node(heads, ids, shares, minima, split, swapped);
-    Stepped::Changed {
+    Ok(Changed {
         root,
         spare: room.third,
-    }
+    })
 }
 
 // A new split of the two, at the root or under the parent.
@@ -137,25 +132,25 @@ fn put_apart(
     room: Spares,
     new: Slot,
     b: Beside,
-    parent: Holder,
+    parent: Option<Holder>,
     heads: &mut [[u64; 8]; 64],
     ids: &mut [[u64; 16]; 64],
     shares: &mut [[f64; 16]; 64],
     minima: &mut [[f64; 16]; 64],
-) -> Stepped
-    requires { Even heads.old ids.old shares.old minima.old × (over_slot new ≡ false) × ((a : Arena) × Apart root room (nodes_from heads.old ids.old shares.old minima.old) (view_slot new) b (holder_of parent) a) }
+) -> Result<Changed, Refusal>
+    requires even { Even heads.old ids.old shares.old minima.old }
+    requires whole { over_slot new ≡ false }
+    requires from { (a : Arena) × Apart root room (nodes_from heads.old ids.old shares.old minima.old) (view_slot new) b (holder_of parent) a }
     ensures { Puts (Apart root room (nodes_from heads.old ids.old shares.old minima.old) (view_slot new) b (holder_of parent)) (λ (a : Arena). put_near a (view_slot new) (beside_of b) (draft a.root (nodes_from heads.old ids.old shares.old minima.old))) result heads.new ids.new shares.new minima.new }
 {
     let target = b.target;
     if target.slot == root {
         return put_over(room, new, b, heads, ids, shares, minima);
     }
-    match parent {
-        Holder::Nothing => Stepped::Refused(Refusal::InvalidOperation),
-        Holder::In { split, index } => put_under(
-            root, room, new, b, split, index, heads, ids, shares, minima,
-        ),
-    }
+    let p = parent.ok_or(Refusal::InvalidOperation)?;
+    put_under(
+        root, room, new, b, p.split, p.index, heads, ids, shares, minima,
+    )
 }
 
 // insert_tile_near, of a tile that takes the lowest spare slot.
@@ -168,24 +163,24 @@ pub fn put_near(
     ids: &mut [[u64; 16]; 64],
     shares: &mut [[f64; 16]; 64],
     minima: &mut [[f64; 16]; 64],
-) -> Stepped
-    requires { Even heads.old ids.old shares.old minima.old × (over_slot new ≡ false) × ((a : Arena) × Fits root room (nodes_from heads.old ids.old shares.old minima.old) (view_slot new) a) }
+) -> Result<Changed, Refusal>
+    requires even { Even heads.old ids.old shares.old minima.old }
+    requires whole { over_slot new ≡ false }
+    requires from { (a : Arena) × Fits root room (nodes_from heads.old ids.old shares.old minima.old) (view_slot new) a }
     ensures { Puts (Fits root room (nodes_from heads.old ids.old shares.old minima.old) (view_slot new)) (λ (a : Arena). put_near a (view_slot new) (beside_of b) (draft a.root (nodes_from heads.old ids.old shares.old minima.old))) result heads.new ids.new shares.new minima.new }
 {
     let target = b.target;
     let at = slots::get_node(heads, ids, shares, minima, target);
     if columns::slots::is_empty(at) {
-        return Stepped::Refused(Refusal::InvalidTileId);
+        return Err(Refusal::InvalidTileId);
     }
     let parent = find::find_parent(heads, ids, target);
     let axis = b.axis;
     if !same_axis_parent(heads, ids, shares, minima, parent, axis) {
         return put_apart(root, room, new, b, parent, heads, ids, shares, minima);
     }
-    match parent {
-        Holder::Nothing => Stepped::Refused(Refusal::InvalidOperation),
-        Holder::In { split, index } => put_in(
-            root, room, new, b, split, index, heads, ids, shares, minima,
-        ),
-    }
+    let p = parent.ok_or(Refusal::InvalidOperation)?;
+    put_in(
+        root, room, new, b, p.split, p.index, heads, ids, shares, minima,
+    )
 }

@@ -3,6 +3,7 @@ use mathlib.Core.Path.{◌≡◌, refl, sym, ap, ◌∙◌}
 use mathlib.Core.Bool.{Bool, true, false, ◌||◌}
 use mathlib.Core.List.{List, [], ◌∷◌, map}
 use mathlib.Core.Option.{Option, none, some}
+use Rattle.std.specs.Prelude.{Option as Maybe, Some, None, is_some}
 use Prim.Native.Nat.{ℕ, zero, suc, ◌+◌, ◌≤◌, ◌<◌}
 use native.Mathlib.Omega.{arith}
 use native.Mathlib.Numerals.{add-one}
@@ -20,9 +21,18 @@ use Rattle.columns.specs.Columns.{node_by, node_from, nodes_from}
 use Rattle.columns.specs.Pack.{over_head}
 use Rattle.columns.specs.ColumnLaws.{nodes-long, nodes-at, split-of}
 use Rattle.forest.specs.Bools.{or_left}
+use Rattle.nodes.specs.declared.PaneLocation.{PaneLocation as Location}
+use Rattle.nodes.specs.declared.PaneLocation.TheVariants.{Tile, InTabs}
+use Rattle.nodes.specs.Parts.{location_of}
 use Rattle.nodes.specs.Find.{scan_from, scan_pane, parent_from, scan_parent, hit, or_where, located-hit}
 
 -- ---- a pane
+
+-- what is found is somewhere
+pub somewhere-some : (r : Maybe Location) → is_somewhere (location_of r) ≡ is_some r
+somewhere-some None = refl
+somewhere-some (Some (Tile t)) = refl
+somewhere-some (Some (InTabs g i)) = refl
 
 -- what is found in a slot is what is found; what is not is found after it
 some-hit : (o : Option PaneLocation) (next : PaneLocation) → is_somewhere (or_where o nowhere) ≡ true → or_where o next ≡ or_where o nowhere

@@ -23,7 +23,7 @@ use Rattle.rules.specs.declared.model.Slot.{Slot}
 use Rattle.forest.specs.Again.{element-at, element-past}
 use Rattle.lists.specs.Exact.{IsIds}
 use Rattle.lists.specs.Places.{length-insert_at, length-remove_at}
-use Rattle.nodes.specs.Parts.{Rows, IsGroup, full_by, is_full, reordered_in}
+use Rattle.nodes.specs.Parts.{IsGroup, full_by, is_full, reordered_in}
 use Rattle.nodes.proofs.SlotLaws.{bare-view, bare-whole, regrouped, regroup-whole, tabs-few}
 
 -- ---- what is a group has the kind
@@ -70,15 +70,15 @@ tabbed s r b e q p x long few a n w i =
     )
 
 -- no place is left: the group would be too wide
-pub tabbed-wide : (s : Slot) (p : ℕ) (x : TabIndex) → Rows s → is_full s ≡ true → (wide_node (tabbed_in p x (view_slot s)) ≡ true) × IsGroup (view_slot s)
-tabbed-wide s p x R f = go s.kind refl f
+pub tabbed-wide : (s : Slot) (p : ℕ) (x : TabIndex) → length s.panes.at ≡ 16 → is_full s ≡ true → (wide_node (tabbed_in p x (view_slot s)) ≡ true) × IsGroup (view_slot s)
+tabbed-wide s p x long f = go s.kind refl f
   where
     go : (k : Kind) → s.kind ≡ k → full_by k s ≡ true → (wide_node (tabbed_in p x (node_of k s)) ≡ true) × IsGroup (node_of k s)
     go Empty e w = absurd (let z : ◌≡◌ {A = ℕ} 0 1 = cc in omega arith)
     go (Pane q) e w = absurd (let z : ◌≡◌ {A = ℕ} 0 1 = cc in omega arith)
     go (Tabs b) e w = (
       lt-ltb 16 (length (insert_at (clamped x (length (ids s.panes))) p (ids s.panes)))
-          (omega (arith, length-insert_at (clamped x (length (ids s.panes))) p (ids s.panes), length-take s.panes.len s.panes.at, R.panes, leb-true 16 s.panes.len w)),
+          (omega (arith, length-insert_at (clamped x (length (ids s.panes))) p (ids s.panes), length-take s.panes.len s.panes.at, long, leb-true 16 s.panes.len w)),
       tt,
     )
     go (Split a) e w = absurd (let z : ◌≡◌ {A = ℕ} 0 1 = cc in omega arith)

@@ -3,6 +3,7 @@ use mathlib.Core.Path.{◌≡◌, refl, sym, ap, subst, ◌∙◌}
 use mathlib.Core.Bool.{Bool, true, false, ◌&&◌, ◌||◌, cond}
 use mathlib.Core.List.{List, [], ◌∷◌}
 use mathlib.Core.Option.{none, some}
+use Rattle.std.specs.Prelude.{Option as Maybe, Some, None}
 use Prim.Native.Nat.{ℕ, zero, suc, ◌+◌, ◌-◌, ◌≤◌, ◌<◌}
 use native.Mathlib.Omega.{arith}
 use native.Mathlib.Numerals.{add-one}
@@ -14,7 +15,7 @@ use lib.Ieee.{Float}
 use lib.Seq.{drop-cons}
 use Rattle.rules.specs.Lists.{remove_at}
 use Rattle.rules.specs.Numbers.{is_valid_split_fraction}
-use Rattle.rules.specs.Tree.{Node, empty, pane, tabs, split, ids, node_at, is_empty, empty_by, empty_from, empty_slots, node_of, over_by, over_slot, view_slot, panes_of}
+use Rattle.rules.specs.Tree.{Node, empty, pane, tabs, split, tile, ids, node_at, is_empty, empty_by, empty_from, empty_slots, node_of, over_by, over_slot, view_slot, panes_of}
 use Rattle.rules.specs.Target.{existing, a_group, beside_by, validate_target}
 use Rattle.rules.specs.Insert.{active_after, removed_from}
 use Rattle.rules.specs.declared.model.TileId.{TileId}
@@ -27,14 +28,12 @@ use Rattle.rules.specs.declared.model.Placement.{Placement}
 use Rattle.rules.specs.Operations.{TabIndex}
 use Rattle.rules.specs.declared.operation.DockTarget.TheVariants.{Root, Split as BesideTile, TabInto}
 use Rattle.rules.specs.declared.refusal.Refusal.TheVariants.{InvalidTileId, InvalidTarget}
-use Rattle.forest.specs.Lists.{All, never}
+use Rattle.forest.specs.Lists.{never}
 use Rattle.lists.specs.Exact.{IsIds}
 use Rattle.columns.specs.Columns.{node_by, nodes_from}
-use Rattle.columns.specs.Pack.{first_of}
+use Rattle.nodes.specs.Parts.{first_slot}
 use Rattle.columns.specs.ColumnLaws.{nodes-long, nodes-at}
 use Rattle.forest.specs.Bools.{or_left, or_right}
-
--- ---- tests
 
 -- ---- lists
 
@@ -65,30 +64,40 @@ module _ (ns : List Node) where
 
   -- a search that has got to i
   abbrev pub Passing : ℕ → ℕ → Type 0
-  Passing from i = first_of (empty_from i (drop i ns)) ≡ first_of (empty_from from (drop from ns))
+  Passing from i = first_slot (empty_from i (drop i ns)) ≡ first_slot (empty_from from (drop from ns))
 
   pub passing-more : (from i : ℕ) → i < length ns → is_empty (get_or ns i empty) ≡ false → Passing from i → Passing from (i + 1)
   passing-more from i h e p =
-      ap (λ (k : ℕ). first_of (empty_from k (drop k ns))) (add-one i) ∙ sym (ap first_of (here i h ∙ ap (λ (b : Bool). empty_by b i (empty_from (suc i) (drop (suc i) ns))) e)) ∙ p
+      ap (λ (k : ℕ). first_slot (empty_from k (drop k ns))) (add-one i) ∙ sym (ap first_slot (here i h ∙ ap (λ (b : Bool). empty_by b i (empty_from (suc i) (drop (suc i) ns))) e)) ∙ p
 
-  pub passing-found : (from i : ℕ) → i < length ns → is_empty (get_or ns i empty) ≡ true → Passing from i → i ≡ first_of (empty_from from (drop from ns))
-  passing-found from i h e p = sym (ap first_of (here i h ∙ ap (λ (b : Bool). empty_by b i (empty_from (suc i) (drop (suc i) ns))) e)) ∙ p
+  pub passing-found : (from i : ℕ) → i < length ns → is_empty (get_or ns i empty) ≡ true → Passing from i → Some (tile i) ≡ first_slot (empty_from from (drop from ns))
+  passing-found from i h e p = sym (ap first_slot (here i h ∙ ap (λ (b : Bool). empty_by b i (empty_from (suc i) (drop (suc i) ns))) e)) ∙ p
 
-  pub passing-all : (from i : ℕ) → length ns ≤ i → Passing from i → 64 ≡ first_of (empty_from from (drop from ns))
+  pub passing-all : (from i : ℕ) → length ns ≤ i → Passing from i → None ≡ first_slot (empty_from from (drop from ns))
   unfolding empty_from
-  passing-all from i h p = sym (ap (λ (l : List Node). first_of (empty_from i l)) (drop_of_length-le ns h)) ∙ p
+  passing-all from i h p = sym (ap (λ (l : List Node). first_slot (empty_from i l)) (drop_of_length-le ns h)) ∙ p
+
+-- ---- the slots of a list of slots
+
+abbrev number : Maybe TileId → ℕ
+number (Some t) = t.slot
+number None = 0
+
+pub some-not : {A : Type 0} {o : Maybe TileId} {t : TileId} → o ≡ Some t → o ≡ None → A
+some-not p q = absurd (let z : ◌≡◌ {A = ℕ} 0 1 = cc in omega arith)
 
 -- the first of them, and those after it
-first-split : (ns : List Node) (k e : ℕ) → first_of (empty_from k ns) ≡ e → e < 64 → (k ≤ e) × (empty_from k ns ≡ e ∷ empty_from (suc e) (drop (suc e - k) ns))
+first-split : (ns : List Node) (k e : ℕ) → first_slot (empty_from k ns) ≡ Some (tile e) → (k ≤ e) × (empty_from k ns ≡ e ∷ empty_from (suc e) (drop (suc e - k) ns))
 unfolding empty_from
-first-split [] k e q h = absurd (omega arith)
-first-split (n ∷ ns) k e q h = go (is_empty n) (λ w. first-split ns (suc k) e w h) q
+first-split [] k e q = some-not q refl
+first-split (n ∷ ns) k e q = go (is_empty n) (λ w. first-split ns (suc k) e w) q
   where
-    go : (b : Bool) → (first_of (empty_from (suc k) ns) ≡ e → (suc k ≤ e) × (empty_from (suc k) ns ≡ e ∷ empty_from (suc e) (drop (suc e - suc k) ns))) → first_of (empty_by b k (empty_from (suc k) ns)) ≡ e
+    go : (b : Bool) → (first_slot (empty_from (suc k) ns) ≡ Some (tile e) → (suc k ≤ e) × (empty_from (suc k) ns ≡ e ∷ empty_from (suc e) (drop (suc e - suc k) ns))) → first_slot (empty_by b k (empty_from (suc k) ns)) ≡ Some (tile e)
         → (k ≤ e) × (empty_by b k (empty_from (suc k) ns) ≡ e ∷ empty_from (suc e) (drop (suc e - k) (n ∷ ns)))
     go true f w =
+        let v : k ≡ e = ap number w in
         let z : suc e - k ≡ 1 = omega arith in
-        (omega arith, (λ j. w j ∷ empty_from (suc (w j)) ns) ∙ ap (λ (x : ℕ). e ∷ empty_from (suc e) (drop x (n ∷ ns))) (sym z))
+        (omega arith, (λ j. v j ∷ empty_from (suc (v j)) ns) ∙ ap (λ (x : ℕ). e ∷ empty_from (suc e) (drop x (n ∷ ns))) (sym z))
     go false f w =
         let (g, u) = f w in
         let z : suc e - k ≡ suc (suc e - suc k) = omega arith in
@@ -109,39 +118,33 @@ module _ (ns : List Node) where
   abbrev rest : ℕ → List ℕ
   rest k = empty_from k (drop k ns)
 
-  pub rest-split : (k e : ℕ) → e ≡ first_of (rest k) → e < 64 → rest k ≡ e ∷ rest (e + 1)
-  rest-split k e q h =
-      let (g, u) = first-split (drop k ns) k e (sym q) h in
+  rest-split : (k e : ℕ) → first_slot (rest k) ≡ Some (tile e) → rest k ≡ e ∷ rest (e + 1)
+  rest-split k e q =
+      let (g, u) = first-split (drop k ns) k e q in
       u ∙ (λ j. e ∷ empty_from (suc e) (drop-drop ns k (suc e - k) (suc e) (omega arith) j)) ∙ ap (λ (x : ℕ). e ∷ rest x) (sym (add-one e))
 
-  rest-none : (k : ℕ) → All (λ i. i < 64) (rest k) → 64 ≤ first_of (rest k) → rest k ≡ []
-  rest-none k a h = go (rest k) refl
+  -- those after one of them are the empty slots past it
+  rest-after : (j k e : ℕ) → first_slot (drop j (rest k)) ≡ Some (tile e) → drop (suc j) (rest k) ≡ rest (e + 1)
+  rest-after zero k e q = ap (drop 1) (rest-split k e q)
+  rest-after (suc j) k e q = go (rest k) refl (λ i. rest-after j (i + 1) e)
     where
-      go : (l : List ℕ) → rest k ≡ l → rest k ≡ []
-      go [] e = e
-      go (x ∷ xs) e = absurd (let y : first_of (rest k) ≡ x = ap first_of e in omega (arith, (subst (All (λ i. i < 64)) e a).0))
+      go : (l : List ℕ) → rest k ≡ l → ((i : ℕ) → first_slot (drop j (rest (i + 1))) ≡ Some (tile e) → drop (suc j) (rest (i + 1)) ≡ rest (e + 1)) → drop (suc (suc j)) (rest k) ≡ rest (e + 1)
+      go [] z f = some-not q (ap (λ (l : List ℕ). first_slot (drop (suc j) l)) z)
+      go (i ∷ is) z f =
+          let s : rest k ≡ i ∷ rest (i + 1) = rest-split k i (ap first_slot z) in
+          ap (drop (suc (suc j))) s ∙ f i (sym (ap (λ (l : List ℕ). first_slot (drop (suc j) l)) s) ∙ q)
 
-  module _ (inside : All (λ i. i < 64) (empty_slots ns)) where
-    first-of : (l : List ℕ) → first_of l ≡ get_or l 0 64
-    first-of [] = refl
-    first-of (x ∷ xs) = refl
+  pub after-some : (j e : ℕ) (r : Maybe TileId) → Some (tile e) ≡ first_slot (drop j (empty_slots ns)) → r ≡ first_slot (empty_from (e + 1) (drop (e + 1) ns)) → r ≡ first_slot (drop (suc j) (empty_slots ns))
+  after-some j e r q w = w ∙ ap first_slot (sym (rest-after j 0 e (sym q)))
 
-    pub spares-none : (a : ℕ) → a ≡ first_of (rest 0) → 64 ≤ a → empty_slots ns ≡ []
-    spares-none a e h = rest-none 0 inside (omega arith)
-
-    one_more : (a : ℕ) → a ≡ first_of (rest 0) → a < 64 → empty_slots ns ≡ a ∷ rest (a + 1)
-    one_more a e h = rest-split 0 a e h
-
-    pub spares-one : (a b : ℕ) → a ≡ first_of (rest 0) → a < 64 → b ≡ first_of (rest (a + 1)) → 64 ≤ b → empty_slots ns ≡ a ∷ []
-    spares-one a b e h f g =
-        let q = one_more a e h in
-        q ∙ ap (λ (l : List ℕ). a ∷ l) (rest-none (a + 1) (subst (All (λ i. i < 64)) q inside).1 (omega arith))
-
-    pub spares-more : (a b c : ℕ) → a ≡ first_of (rest 0) → a < 64 → b ≡ first_of (rest (a + 1)) → b < 64 → c ≡ first_of (rest (b + 1))
-        → (a ≡ get_or (empty_slots ns) 0 64) × (b ≡ get_or (empty_slots ns) 1 64) × (c ≡ get_or (empty_slots ns) 2 64)
-    spares-more a b c e h f g w =
-        let q : empty_slots ns ≡ a ∷ b ∷ rest (b + 1) = one_more a e h ∙ ap (λ (l : List ℕ). a ∷ l) (rest-split (a + 1) b f g) in
-        (sym (ap (λ (l : List ℕ). get_or l 0 64) q), sym (ap (λ (l : List ℕ). get_or l 1 64) q), w ∙ first-of (rest (b + 1)) ∙ sym (ap (λ (l : List ℕ). get_or l 2 64) q))
+  pub after-none : (j : ℕ) → None ≡ first_slot (drop j (empty_slots ns)) → None ≡ first_slot (drop (suc j) (empty_slots ns))
+  after-none j q = go (empty_slots ns) j q
+    where
+      go : (l : List ℕ) (j : ℕ) → None ≡ first_slot (drop j l) → None ≡ first_slot (drop (suc j) l)
+      go [] zero e = refl
+      go [] (suc j) e = refl
+      go (i ∷ is) zero e = some-not refl (sym e)
+      go (i ∷ is) (suc j) e = go is j e
 
 -- ---- the same, row by row
 
@@ -155,26 +158,27 @@ empty-not (suc zero) h xs ss ms e = refl
 empty-not (suc (suc zero)) h xs ss ms e = refl
 empty-not (suc (suc (suc k))) h xs ss ms e = refl
 
-module _ (hs : List (List ℕ)) (size : length hs ≡ 64) (from i : ℕ) where
-  abbrev pub First : ℕ → Type 0
-  First r = (xs : List (List ℕ)) (ss ms : List (List Float)) → length xs ≡ 64 → length ss ≡ 64 → length ms ≡ 64 → r ≡ first_of (empty_from from (drop from (nodes_from hs xs ss ms)))
+module _ (hs : List (List ℕ)) (from : ℕ) where
+  abbrev pub First : Maybe TileId → Type 0
+  First r = (xs : List (List ℕ)) (ss ms : List (List Float)) → length xs ≡ 64 → length ss ≡ 64 → length ms ≡ 64 → r ≡ first_slot (empty_from from (drop from (nodes_from hs xs ss ms)))
 
   -- a search of the heads that has got to i, whatever else the rows hold
   abbrev pub Heading : ℕ → Type 0
-  Heading j = (xs : List (List ℕ)) (ss ms : List (List Float)) → length xs ≡ 64 → length ss ≡ 64 → length ms ≡ 64 → Passing (nodes_from hs xs ss ms) from j
+  Heading i = (xs : List (List ℕ)) (ss ms : List (List Float)) → length xs ≡ 64 → length ss ≡ 64 → length ms ≡ 64 → Passing (nodes_from hs xs ss ms) from i
 
-  pub heading-found : i < 64 → get_or (get_or hs i []) 0 0 ≡ 0 → Heading i → First i
-  heading-found h e w xs ss ms lx ls lm =
-      passing-found (nodes_from hs xs ss ms) from i (omega (arith, nodes-long hs xs ss ms size lx ls lm))
-      (ap is_empty (nodes-at hs xs ss ms size lx ls lm i) ∙ empty-is (get_or (get_or hs i []) 0 0) (get_or hs i []) (get_or xs i []) (get_or ss i []) (get_or ms i []) e) (w xs ss ms lx ls lm)
+  module _ (size : length hs ≡ 64) (i : ℕ) where
+    pub heading-found : i < 64 → get_or (get_or hs i []) 0 0 ≡ 0 → Heading i → First (Some (tile i))
+    heading-found h e w xs ss ms lx ls lm =
+        passing-found (nodes_from hs xs ss ms) from i (omega (arith, nodes-long hs xs ss ms size lx ls lm))
+        (ap is_empty (nodes-at hs xs ss ms size lx ls lm i) ∙ empty-is (get_or (get_or hs i []) 0 0) (get_or hs i []) (get_or xs i []) (get_or ss i []) (get_or ms i []) e) (w xs ss ms lx ls lm)
 
-  pub heading-more : i < 64 → (get_or (get_or hs i []) 0 0 ≡ 0 → ⊥) → Heading i → Heading (i + 1)
-  heading-more h e w xs ss ms lx ls lm =
-      passing-more (nodes_from hs xs ss ms) from i (omega (arith, nodes-long hs xs ss ms size lx ls lm))
-      (ap is_empty (nodes-at hs xs ss ms size lx ls lm i) ∙ empty-not (get_or (get_or hs i []) 0 0) (get_or hs i []) (get_or xs i []) (get_or ss i []) (get_or ms i []) e) (w xs ss ms lx ls lm)
+    pub heading-more : i < 64 → (get_or (get_or hs i []) 0 0 ≡ 0 → ⊥) → Heading i → Heading (i + 1)
+    heading-more h e w xs ss ms lx ls lm =
+        passing-more (nodes_from hs xs ss ms) from i (omega (arith, nodes-long hs xs ss ms size lx ls lm))
+        (ap is_empty (nodes-at hs xs ss ms size lx ls lm i) ∙ empty-not (get_or (get_or hs i []) 0 0) (get_or hs i []) (get_or xs i []) (get_or ss i []) (get_or ms i []) e) (w xs ss ms lx ls lm)
 
-  pub heading-all : 64 ≤ i → Heading i → First 64
-  heading-all h w xs ss ms lx ls lm = passing-all (nodes_from hs xs ss ms) from i (omega (arith, nodes-long hs xs ss ms size lx ls lm)) (w xs ss ms lx ls lm)
+    pub heading-all : 64 ≤ i → Heading i → First None
+    heading-all h w xs ss ms lx ls lm = passing-all (nodes_from hs xs ss ms) from i (omega (arith, nodes-long hs xs ss ms size lx ls lm)) (w xs ss ms lx ls lm)
 
 -- ---- lists that are all there, by kind
 

@@ -1,52 +1,48 @@
 -- What the parts of an operation answer, as the rules have it. Definitions only.
-use Rattle.std.specs.Prelude.{◌≡◌, Bool, false, ℕ, leb, length, get_or, List}
+use Rattle.std.specs.Prelude.{◌≡◌, Bool, false, ℕ, leb, drop, List, [], ◌∷◌, Option as Maybe, Some, None, Result, Ok, Err, ⊤}
 use Rattle.std.proofs.Math.Option.{Option, none, some}
 use Rattle.std.proofs.Math.ListN.{get_elem?}
-use Rattle.rules.specs.Tree.{Node, empty, pane, tabs, split, empty_slots}
+use Rattle.rules.specs.Tree.{Node, empty, pane, tabs, split, tile, empty_slots}
 use Rattle.rules.specs.Target.{PaneLocation, nowhere, in_tile, in_tabs, Parent}
 use Rattle.rules.specs.Insert as Insert
 use Rattle.rules.specs.Operations.{kept_active, reordered}
 use Rattle.rules.specs.declared.model.Kind.{Kind}
 use Rattle.rules.specs.declared.model.Kind.TheVariants.{Empty, Pane, Tabs, Split}
 use Rattle.rules.specs.declared.model.Slot.{Slot}
+use Rattle.rules.specs.declared.model.TileId.{TileId}
 use Rattle.rules.specs.declared.refusal.Refusal.{Refusal}
 use Rattle.nodes.specs.declared.PaneLocation.{PaneLocation as Location}
-use Rattle.nodes.specs.declared.PaneLocation.TheVariants.{Nowhere, Tile, InTabs}
+use Rattle.nodes.specs.declared.PaneLocation.TheVariants.{Tile, InTabs}
 use Rattle.nodes.specs.declared.Holder.{Holder}
-use Rattle.nodes.specs.declared.Holder.TheVariants.{Nothing, In}
-use Rattle.nodes.specs.declared.Checked.{Checked}
-use Rattle.nodes.specs.declared.Checked.TheVariants.{Good, Bad}
 use Rattle.nodes.specs.declared.Beside.{Beside}
 use Rattle.nodes.specs.declared.Spares.{Spares}
 
-abbrev pub location_of : Location → PaneLocation
-location_of Nowhere = nowhere
-location_of (Tile t) = in_tile t
-location_of (InTabs g i) = in_tabs g i
+abbrev pub location_of : Maybe Location → PaneLocation
+location_of None = nowhere
+location_of (Some (Tile t)) = in_tile t
+location_of (Some (InTabs g i)) = in_tabs g i
 
-abbrev pub holder_of : Holder → Option Parent
-holder_of Nothing = none
-holder_of (In s i) = some (record { split = s; index = i })
+abbrev pub holder_of : Maybe Holder → Option Parent
+holder_of None = none
+holder_of (Some h) = some (record { split = h.split; index = h.index })
 
-abbrev pub checked_of : Checked → Option Refusal
-checked_of Good = none
-checked_of (Bad e) = some e
+abbrev pub checked_of : Result ⊤ Refusal → Option Refusal
+checked_of (Ok u) = none
+checked_of (Err e) = some e
 
 abbrev pub beside_of : Beside → Insert.Beside
 beside_of b = Insert.beside b.target b.axis b.placement b.share
 
--- the lowest three of the empty slots, 64 where there is none
-pub record Spared (r : Spares) (ns : List Node) : Type 0 where
-  pub first : r.first ≡ get_or (empty_slots ns) 0 64
-  pub second : r.second ≡ get_or (empty_slots ns) 1 64
-  pub third : r.third ≡ get_or (empty_slots ns) 2 64
+-- the first of these slots, where there is one
+abbrev pub first_slot : List ℕ → Maybe TileId
+first_slot [] = None
+first_slot (i ∷ is) = Some (tile i)
 
--- the lists of a slot have 16 places each
-pub record Rows (s : Slot) : Type 0 where
-  pub panes : length s.panes.at ≡ 16
-  pub children : length s.children.at ≡ 16
-  pub shares : length s.shares.at ≡ 16
-  pub minima : length s.minima.at ≡ 16
+-- the lowest three of the empty slots, as far as there are three
+pub record Spared (r : Spares) (ns : List Node) : Type 0 where
+  pub first : r.first ≡ first_slot (empty_slots ns)
+  pub second : r.second ≡ first_slot (drop 1 (empty_slots ns))
+  pub third : r.third ≡ first_slot (drop 2 (empty_slots ns))
 
 abbrev pub IsGroup : Node → Type 0
 IsGroup empty = ⊥

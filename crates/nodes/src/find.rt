@@ -2,7 +2,7 @@
 ghost use Rattle.std.specs.Prelude.{◌≡◌, false, List, [], ◌≤◌, ◌<◌, eqb, Float, length, get_or};
 ghost use Rattle.rules.specs.Lists.{any_of, position};
 ghost use Rattle.rules.specs.Tree.{ids as ids_in, tile, kids_of, same_tile};
-ghost use Rattle.rules.specs.Target.{nowhere, located, is_somewhere};
+ghost use Rattle.rules.specs.Target.{nowhere, located};
 ghost use Rattle.rules.specs.Target as Rule;
 ghost use Rattle.lists.specs.Find.{place_of};
 ghost use Rattle.columns.specs.Columns.{node_from, nodes_from};
@@ -13,41 +13,34 @@ ghost use Rattle.nodes.specs.Parts.{location_of, holder_of};
 use crate::{Holder, PaneLocation};
 use rules::model::{Ids, TileId};
 
-pub fn is_somewhere(l: PaneLocation) -> bool
-    ensures { result ≡ is_somewhere (location_of l) }
-{
-    match l {
-        PaneLocation::Nowhere => false,
-        PaneLocation::Tile { tile: _ } => true,
-        PaneLocation::InTabs { group: _, index: _ } => true,
-    }
-}
-
 // A pane tile that shows the pane.
-fn in_tile(pane: u64, own: u64, tile: TileId) -> PaneLocation
+fn in_tile(pane: u64, own: u64, tile: TileId) -> Option<PaneLocation>
     ensures { location_of result ≡ Rule.tile_has (eqb pane own) tile nowhere }
 {
     if pane == own {
-        return PaneLocation::Tile { tile };
+        return Some(PaneLocation::Tile { tile });
     }
-    PaneLocation::Nowhere
+    None
 }
 
 // A group that has the pane.
-fn in_tabs(panes: Ids, pane: u64, group: TileId) -> PaneLocation
+fn in_tabs(panes: Ids, pane: u64, group: TileId) -> Option<PaneLocation>
     requires { panes.len ≤ 16 }
     ensures { location_of result ≡ Rule.tabs_have (position (eqb pane) (ids_in panes)) group nowhere }
 {
-    let place = lists::position(panes, pane);
-    match place {
-        Some(index) => PaneLocation::InTabs { group, index },
-        None => PaneLocation::Nowhere,
-    }
+    let index = lists::position(panes, pane)?;
+    Some(PaneLocation::InTabs { group, index })
 }
 
 // Where the pane stands in one row.
-fn pane_in(heads: &[[u64; 8]; 64], ids: &[[u64; 16]; 64], i: usize, pane: u64) -> PaneLocation
-    requires { (length heads.now ≡ 64) × (length ids.now ≡ 64) × (i < 64) × (over_head (get_or heads.now i []) ≡ false) }
+fn pane_in(
+    heads: &[[u64; 8]; 64],
+    ids: &[[u64; 16]; 64],
+    i: usize,
+    pane: u64,
+) -> Option<PaneLocation>
+    requires inside { i < 64 }
+    requires whole { over_head (get_or heads.now i []) ≡ false }
     ensures { (ss ms : List Float) → location_of result ≡ located (node_from (get_or heads.now i []) (get_or ids.now i []) ss ms) pane (tile i) nowhere }
 {
     let h = heads[i];
@@ -63,28 +56,27 @@ fn pane_in(heads: &[[u64; 8]; 64], ids: &[[u64; 16]; 64], i: usize, pane: u64) -
         };
         return in_tabs(panes, pane, at);
     }
-    PaneLocation::Nowhere
+    None
 }
 
 // find_pane
-pub fn find_pane(heads: &[[u64; 8]; 64], ids: &[[u64; 16]; 64], pane: u64) -> PaneLocation
-    requires { (length heads.now ≡ 64) × (length ids.now ≡ 64) × (any_of over_head heads.now ≡ false) }
+pub fn find_pane(heads: &[[u64; 8]; 64], ids: &[[u64; 16]; 64], pane: u64) -> Option<PaneLocation>
+    requires { any_of over_head heads.now ≡ false }
     ensures { (ss ms : List (List Float)) → length ss ≡ 64 → length ms ≡ 64 → location_of result ≡ scan_pane (nodes_from heads.now ids.now ss ms) pane }
 {
-    let mut i = 0usize;
-    while i < 64 {
+    for i in 0..64 {
         let l = pane_in(heads, ids, i, pane);
-        if is_somewhere(l) {
+        if l.is_some() {
             return l;
         }
-        i += 1;
     }
-    PaneLocation::Nowhere
+    None
 }
 
 // The place of a tile among the children of one row.
 fn place_in(heads: &[[u64; 8]; 64], ids: &[[u64; 16]; 64], i: usize, target: u64) -> Option<usize>
-    requires { (length heads.now ≡ 64) × (length ids.now ≡ 64) × (i < 64) × (over_head (get_or heads.now i []) ≡ false) }
+    requires inside { i < 64 }
+    requires whole { over_head (get_or heads.now i []) ≡ false }
     ensures { (ss ms : List Float) → place_of result ≡ position (same_tile (tile target)) (kids_of (node_from (get_or heads.now i []) (get_or ids.now i []) ss ms)) }
 {
     let h = heads[i];
@@ -100,20 +92,16 @@ fn place_in(heads: &[[u64; 8]; 64], ids: &[[u64; 16]; 64], i: usize, target: u64
 }
 
 // find_parent
-pub fn find_parent(heads: &[[u64; 8]; 64], ids: &[[u64; 16]; 64], target: TileId) -> Holder
-    requires { (length heads.now ≡ 64) × (length ids.now ≡ 64) × (any_of over_head heads.now ≡ false) }
+pub fn find_parent(heads: &[[u64; 8]; 64], ids: &[[u64; 16]; 64], target: TileId) -> Option<Holder>
+    requires { any_of over_head heads.now ≡ false }
     ensures { (ss ms : List (List Float)) → length ss ≡ 64 → length ms ≡ 64 → holder_of result ≡ scan_parent (nodes_from heads.now ids.now ss ms) target }
 {
-    let mut i = 0usize;
-    while i < 64 {
+    for i in 0..64 {
         let place = place_in(heads, ids, i, target.slot);
         if let Some(index) = place {
-            return Holder::In {
-                split: TileId { slot: i as u64 },
-                index,
-            };
+            let split = TileId { slot: i as u64 };
+            return Some(Holder { split, index });
         }
-        i += 1;
     }
-    Holder::Nothing
+    None
 }

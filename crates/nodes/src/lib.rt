@@ -4,33 +4,24 @@
 #![tactic(auto)]
 
 use rules::model::{Axis, Placement, TileId};
-use rules::refusal::Refusal;
 
 pub mod find;
 pub mod slots;
 pub mod take;
 pub mod targets;
 
-// Where a pane stands: the Rust's Option<PaneLocation>.
+// Where a pane stands.
 #[derive(Clone, Copy)]
 pub enum PaneLocation {
-    Nowhere,
     Tile { tile: TileId },
     InTabs { group: TileId, index: usize },
 }
 
-// The split that holds a tile, and the place in it: find_parent's Option<(TileId, usize)>.
+// The split that holds a tile, and the place in it: find_parent's (TileId, usize).
 #[derive(Clone, Copy)]
-pub enum Holder {
-    Nothing,
-    In { split: TileId, index: usize },
-}
-
-// What validate_target answers: the Rust's Result<(), TileError>.
-#[derive(Clone, Copy)]
-pub enum Checked {
-    Good,
-    Bad(Refusal),
+pub struct Holder {
+    pub split: TileId,
+    pub index: usize,
 }
 
 // Where a tile goes: insert_tile_near's target, axis, placement and share.
@@ -42,10 +33,10 @@ pub struct Beside {
     pub share: f64,
 }
 
-// The lowest three slots that were empty when the call began; 64 stands for none.
+// The lowest three slots that were empty when the call began, as far as there are three.
 #[derive(Clone, Copy)]
 pub struct Spares {
-    pub first: u64,
-    pub second: u64,
-    pub third: u64,
+    pub first: Option<TileId>,
+    pub second: Option<TileId>,
+    pub third: Option<TileId>,
 }

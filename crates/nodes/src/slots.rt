@@ -1,11 +1,11 @@
 // Slots read, written, taken and made: the Rust's get_node, set_node and push_node.
-ghost use Rattle.std.specs.Prelude.{◌≡◌, false, List, [], ◌∷◌, ℕ, ◌≤◌, Float, length, drop};
-ghost use Rattle.rules.specs.Tree.{Node, view_slot, over_slot, node_at, set_node, empty_from};
+ghost use Rattle.std.specs.Prelude.{◌≡◌, false, List, [], ◌∷◌, ℕ, suc, ◌<◌, Float, length, drop, IfSome};
+ghost use Rattle.rules.specs.Tree.{Node, view_slot, over_slot, node_at, set_node, empty_from, empty_slots};
 ghost use Rattle.rules.specs.declared.model.TabBarPlacement.TheVariants as Bars;
 ghost use Rattle.lists.specs.Exact.{IsTiles, IsReals};
 ghost use Rattle.columns.specs.Columns.{nodes_from};
-ghost use Rattle.columns.specs.Pack.{Even, first_of};
-ghost use Rattle.nodes.specs.Parts.{Rows, Spared};
+ghost use Rattle.columns.specs.Pack.{Even};
+ghost use Rattle.nodes.specs.Parts.{first_slot, Spared};
 
 use crate::Spares;
 use columns::{pack, unpack};
@@ -38,7 +38,8 @@ pub fn set_node(
     id: TileId,
     s: Slot,
 )
-    requires { Even heads.old ids.old shares.old minima.old × (over_slot s ≡ false) }
+    requires even { Even heads.old ids.old shares.old minima.old }
+    requires whole { over_slot s ≡ false }
     ensures { (nodes_from heads.new ids.new shares.new minima.new ≡ set_node id (view_slot s) (nodes_from heads.old ids.old shares.old minima.old)) × Even heads.new ids.new shares.new minima.new }
 {
     let i = id.slot;
@@ -48,55 +49,43 @@ pub fn set_node(
     unpack::put(heads, ids, shares, minima, i as usize, s);
 }
 
-// The lowest empty slot from one on, 64 where there is none.
-fn next_empty(heads: &[[u64; 8]; 64], from: u64) -> u64
-    requires { (length heads.now ≡ 64) × (from ≤ 64) }
-    ensures { (xs : List (List ℕ)) (ss ms : List (List Float)) → length xs ≡ 64 → length ss ≡ 64 → length ms ≡ 64 → result ≡ first_of (empty_from from (drop from (nodes_from heads.now xs ss ms))) }
+// The lowest empty slot from one on.
+pub fn next_empty(heads: &[[u64; 8]; 64], from: usize) -> Option<TileId>
+    ensures inside { IfSome result (λ t. t.slot < 64) }
+    ensures right { (xs : List (List ℕ)) (ss ms : List (List Float)) → length xs ≡ 64 → length ss ≡ 64 → length ms ≡ 64 → result ≡ first_slot (empty_from from (drop from (nodes_from heads.now xs ss ms))) }
 {
-    let mut i = from as usize;
-    while i < 64 {
+    for i in from..64 {
         let h = heads[i];
         if h[0] == 0 {
-            return i as u64;
+            return Some(TileId { slot: i as u64 });
         }
-        i += 1;
     }
-    64
+    None
+}
+
+// The empty slot after one of them.
+fn next_after(heads: &[[u64; 8]; 64], last: Option<TileId>) -> Option<TileId>
+    requires { IfSome last (λ t. t.slot < 64) }
+    ensures inside { IfSome result (λ t. t.slot < 64) }
+    ensures right { (xs : List (List ℕ)) (ss ms : List (List Float)) → length xs ≡ 64 → length ss ≡ 64 → length ms ≡ 64 → (k : ℕ) → last ≡ first_slot (drop k (empty_slots (nodes_from heads.now xs ss ms))) → result ≡ first_slot (drop (suc k) (empty_slots (nodes_from heads.now xs ss ms))) }
+{
+    let t = last?;
+    next_empty(heads, t.slot as usize + 1)
 }
 
 // The slots that new tiles take, in order of making.
 pub fn spares(heads: &[[u64; 8]; 64]) -> Spares
-    requires { length heads.now ≡ 64 }
     ensures { (xs : List (List ℕ)) (ss ms : List (List Float)) → length xs ≡ 64 → length ss ≡ 64 → length ms ≡ 64 → Spared result (nodes_from heads.now xs ss ms) }
 {
     let first = next_empty(heads, 0);
-    if 64 <= first {
-        return Spares {
-            first: 64,
-            second: 64,
-            third: 64,
-        };
-    }
-    let second = next_empty(heads, first + 1);
-    if 64 <= second {
-        return Spares {
-            first,
-            second: 64,
-            third: 64,
-        };
-    }
-    let third = next_empty(heads, second + 1);
+    let second = next_after(heads, first);
+    let third = next_after(heads, second);
     Spares {
         first,
         second,
         third,
     }
 }
-
-// A slot's lists have 16 places each.
-pub fn rows(s: Slot)
-    ensures { Rows s }
-{}
 
 // TileNode::pane
 pub fn pane_slot(pane: u64) -> Slot

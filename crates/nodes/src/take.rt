@@ -32,7 +32,8 @@ fn active_after(index: usize, active: usize, n: usize) -> usize
 
 // A group without the pane at index.
 fn removed_from(s: Slot, index: usize) -> Slot
-    requires { (index < length (panes_of (view_slot s))) × (over_slot s ≡ false) }
+    requires inside { index < length (panes_of (view_slot s)) }
+    requires whole { over_slot s ≡ false }
     ensures { (view_slot result ≡ removed_from index (view_slot s)) × (over_slot result ≡ false) }
 {
     let k = s.kind;
@@ -57,13 +58,16 @@ pub fn remove_pane(
     ids: &mut [[u64; 16]; 64],
     shares: &mut [[f64; 16]; 64],
     minima: &mut [[f64; 16]; 64],
-    l: PaneLocation,
+    l: Option<PaneLocation>,
 )
-    requires { Even heads.old ids.old shares.old minima.old × Stands (nodes_from heads.old ids.old shares.old minima.old) (location_of l) }
+    requires even { Even heads.old ids.old shares.old minima.old }
+    requires stands { Stands (nodes_from heads.old ids.old shares.old minima.old) (location_of l) }
     ensures { (nodes_from heads.new ids.new shares.new minima.new ≡ remove_pane (location_of l) (nodes_from heads.old ids.old shares.old minima.old)) × Even heads.new ids.new shares.new minima.new }
 {
-    match l {
-        PaneLocation::Nowhere => {}
+    let Some(at) = l else {
+        return;
+    };
+    match at {
         PaneLocation::Tile { tile } => {
             let none = pack::bare_slot(Kind::Empty);
             slots::set_node(heads, ids, shares, minima, tile, none);

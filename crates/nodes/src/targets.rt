@@ -6,32 +6,32 @@ ghost use Rattle.columns.specs.Columns.{nodes_from};
 ghost use Rattle.columns.specs.Pack.{Even};
 ghost use Rattle.nodes.specs.Parts.{checked_of};
 
-use crate::{Checked, slots};
+use crate::slots;
 use rules::model::{Kind, Slot};
 use rules::operation::DockTarget;
 use rules::refusal::Refusal;
 use util::shares;
 
 // A tile beside which something goes.
-fn is_there(s: Slot) -> Checked
+fn is_there(s: Slot) -> Result<(), Refusal>
     ensures { checked_of result ≡ existing (view_slot s) }
 {
     if columns::slots::is_empty(s) {
-        return Checked::Bad(Refusal::InvalidTileId);
+        return Err(Refusal::InvalidTileId);
     }
-    Checked::Good
+    Ok(())
 }
 
 // A tile into which something goes.
-fn is_group(s: Slot) -> Checked
+fn is_group(s: Slot) -> Result<(), Refusal>
     ensures { checked_of result ≡ a_group (view_slot s) }
 {
     let k = s.kind;
     match k {
-        Kind::Empty => Checked::Bad(Refusal::InvalidTileId),
-        Kind::Pane(_) => Checked::Bad(Refusal::InvalidTarget),
-        Kind::Tabs(_) => Checked::Good,
-        Kind::Split(_) => Checked::Bad(Refusal::InvalidTarget),
+        Kind::Empty => Err(Refusal::InvalidTileId),
+        Kind::Pane(_) => Err(Refusal::InvalidTarget),
+        Kind::Tabs(_) => Ok(()),
+        Kind::Split(_) => Err(Refusal::InvalidTarget),
     }
 }
 
@@ -42,12 +42,12 @@ pub fn validate_target(
     shares: &[[f64; 16]; 64],
     minima: &[[f64; 16]; 64],
     target: DockTarget,
-) -> Checked
+) -> Result<(), Refusal>
     requires { Even heads.now ids.now shares.now minima.now }
     ensures { checked_of result ≡ validate_target (nodes_from heads.now ids.now shares.now minima.now) target }
 {
     match target {
-        DockTarget::Root => Checked::Good,
+        DockTarget::Root => Ok(()),
         DockTarget::Split {
             tile,
             axis: _,
@@ -58,7 +58,7 @@ pub fn validate_target(
                 let s = slots::get_node(heads, ids, shares, minima, tile);
                 return is_there(s);
             }
-            Checked::Bad(Refusal::InvalidTarget)
+            Err(Refusal::InvalidTarget)
         }
         DockTarget::TabInto { group, index: _ } => {
             let s = slots::get_node(heads, ids, shares, minima, group);

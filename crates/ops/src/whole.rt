@@ -1,5 +1,5 @@
 // The public call: the Rust's apply and apply_inner.
-ghost use Rattle.std.specs.Prelude.{◌≡◌, true, false};
+ghost use Rattle.std.specs.Prelude.{◌≡◌, true};
 ghost use Rattle.rules.specs.Tree.{Arena, view};
 ghost use Rattle.rules.specs.Sound.{sound};
 ghost use Rattle.rules.specs.Operations as Rule;
@@ -10,12 +10,12 @@ ghost use Rattle.docking.specs.Steps.{applied, Does, Ready, Comes};
 
 use crate::finish;
 use changing::{operations, reorder};
-use columns::{pack, slots, unpack};
-use docking::{AppliedIn, Applying, Stepped};
+use columns::{pack, unpack};
+use docking::{AppliedIn, Applying, Changed};
 use repair::whole;
 use rules::model::{TileId, TileTree};
 use rules::operation::TileOp;
-use rules::refusal::{Answer, Refusal};
+use rules::refusal::Refusal;
 use settling::lone;
 
 // apply_inner
@@ -26,7 +26,7 @@ fn apply_inner(
     ids: &mut [[u64; 16]; 64],
     shares: &mut [[f64; 16]; 64],
     minima: &mut [[f64; 16]; 64],
-) -> Stepped
+) -> Result<Option<Changed>, Refusal>
     requires { Ready root heads.old ids.old shares.old minima.old }
     ensures { Does root (λ (a : Arena). Rule.apply_inner a op) result heads.old ids.old shares.old minima.old heads.new ids.new shares.new minima.new }
 {
@@ -35,7 +35,8 @@ fn apply_inner(
             operations::activate_pane(root, pane, heads, ids, shares, minima)
         }
         TileOp::ClosePane { pane } => {
-            operations::close_pane(root, pane, heads, ids, shares, minima)
+            let c = operations::close_pane(root, pane, heads, ids, shares, minima)?;
+            Ok(Some(c))
         }
         TileOp::SplitPane {
             pane,
@@ -43,11 +44,15 @@ fn apply_inner(
             new_pane,
             placement,
             share,
-        } => operations::split_pane(
-            root, pane, axis, new_pane, placement, share, heads, ids, shares, minima,
-        ),
+        } => {
+            let c = operations::split_pane(
+                root, pane, axis, new_pane, placement, share, heads, ids, shares, minima,
+            )?;
+            Ok(Some(c))
+        }
         TileOp::MovePane { pane, target } => {
-            operations::move_pane(root, pane, target, heads, ids, shares, minima)
+            let c = operations::move_pane(root, pane, target, heads, ids, shares, minima)?;
+            Ok(Some(c))
         }
         TileOp::ReorderTab { group, pane, index } => {
             reorder::reorder_tab(root, group, pane, index, heads, ids, shares, minima)
@@ -65,27 +70,19 @@ pub fn apply_columns(
     ids: &mut [[u64; 16]; 64],
     shares: &mut [[f64; 16]; 64],
     minima: &mut [[f64; 16]; 64],
-) -> AppliedIn
+) -> Result<Option<AppliedIn>, Refusal>
     requires { Plain heads.old ids.old shares.old minima.old }
-    ensures { Comes (arena_from root revision heads.old ids.old shares.old minima.old) (Rule.apply (arena_from root revision heads.old ids.old shares.old minima.old) op) result heads.new ids.new shares.new minima.new × (sound (arena_from root revision heads.old ids.old shares.old minima.old) ≡ true → Rule.apply_inner (arena_from root revision heads.old ids.old shares.old minima.old) op ≡ Rule.unchanged → result.changed ≡ false) }
+    ensures { Comes (arena_from root revision heads.old ids.old shares.old minima.old) (Rule.apply (arena_from root revision heads.old ids.old shares.old minima.old) op) result heads.new ids.new shares.new minima.new × (sound (arena_from root revision heads.old ids.old shares.old minima.old) ≡ true → Rule.apply_inner (arena_from root revision heads.old ids.old shares.old minima.old) op ≡ Rule.unchanged → result ≡ Ok None) }
 {
     lone::root_row(ids, root);
     if !whole::sound_columns(root, heads, ids, shares, minima) {
-        return finish::refused(root, revision, Refusal::NotSound);
+        return Err(Refusal::NotSound);
     }
-    let step = apply_inner(root, op, heads, ids, shares, minima);
-    match step {
-        Stepped::Refused(e) => finish::refused(root, revision, e),
-        Stepped::Unchanged => AppliedIn {
-            answer: Ok(()),
-            root,
-            revision,
-            changed: false,
-        },
-        Stepped::Changed { root: top, spare } => {
-            finish::change(root, revision, top, spare, heads, ids, shares, minima)
-        }
-    }
+    let Some(to) = apply_inner(root, op, heads, ids, shares, minima)? else {
+        return Ok(None);
+    };
+    let done = finish::change(revision, to, heads, ids, shares, minima)?;
+    Ok(Some(done))
 }
 
 // apply: any operation on any tree. A refused or unchanged tree comes back as it was given, to the last place of its lists.
@@ -93,7 +90,6 @@ pub fn apply(t: TileTree, op: TileOp) -> Applying
     ensures { (applied result ≡ Rule.apply (view t) op) × ((e : Refusal) → result.answer ≡ Answers.Refused e → result.tree ≡ t) × (sound (view t) ≡ true → Rule.apply_inner (view t) op ≡ Rule.unchanged → result.tree ≡ t) }
 {
     let given = t.slots;
-    slots::sized(given);
     let top = t.root;
     let mut heads = [[0u64; 8]; 64];
     let mut ids = [[0u64; 16]; 64];
@@ -109,15 +105,15 @@ pub fn apply(t: TileTree, op: TileOp) -> Applying
         &mut shares,
         &mut minima,
     );
-    let answer = done.answer;
-    if !done.changed {
+    let answer = finish::answer_of(done);
+    let Some(next) = done.unwrap_or(None) else {
         return Applying { answer, tree: t };
-    }
+    };
     let slots = pack::pack(&heads, &ids, &shares, &minima);
-    let root = TileId { slot: done.root };
+    let root = TileId { slot: next.root };
     let tree = TileTree {
         root,
-        revision: done.revision,
+        revision: next.revision,
         slots,
     };
     Applying { answer, tree }

@@ -6,7 +6,7 @@ ghost use Rattle.rules.specs.Tree as Tree;
 ghost use Rattle.rules.specs.Tree.{view_slot, over_slot, same_axis};
 ghost use Rattle.rules.specs.Insert.{insert_index, inserted_share, target_share, divided_shares, inserted_in, has_axis, new_split, replaced_in};
 ghost use Rattle.lists.specs.Exact.{IsReals};
-ghost use Rattle.nodes.specs.Parts.{beside_of, Rows};
+ghost use Rattle.nodes.specs.Parts.{beside_of};
 
 use columns::pack;
 use nodes::{Beside, slots};
@@ -76,7 +76,8 @@ fn target_share(old: f64, share: f64) -> f64
 
 // A split's shares, the one at index divided between the target and the inserted.
 fn divided_shares(shares: Reals, b: Beside, index: usize) -> Reals
-    requires { (index < shares.len) × (shares.len < 16) }
+    requires inside { index < shares.len }
+    requires roomy { shares.len < 16 }
     ensures { IsReals result (divided_shares (beside_of b) index (Tree.reals shares)) }
 {
     let old = lists::get(shares, index, 1.0);
@@ -90,7 +91,10 @@ fn divided_shares(shares: Reals, b: Beside, index: usize) -> Reals
 
 // A split with the tile inserted at the target's side, with minimum 0.
 pub fn inserted_in(s: Slot, b: Beside, inserted: TileId, index: usize) -> Slot
-    requires { (index < s.children.len) × (s.children.len < 16) × (s.shares.len ≤ 16) × (over_slot s ≡ false) × Rows s }
+    requires inside { index < s.children.len }
+    requires roomy { s.children.len < 16 }
+    requires few { s.shares.len ≤ 16 }
+    requires whole { over_slot s ≡ false }
     ensures { (view_slot result ≡ inserted_in (beside_of b) inserted index (view_slot s)) × (over_slot result ≡ false) }
 {
     let children = s.children;
@@ -143,7 +147,9 @@ fn split_of(axis: Axis, first: TileId, second: TileId, a: f64, b: f64) -> Slot
 
 // A split with another tile in the target's place.
 pub fn replaced_in(s: Slot, other: TileId, index: usize) -> Slot
-    requires { (index < s.children.len) × (s.children.len ≤ 16) × (over_slot s ≡ false) }
+    requires inside { index < s.children.len }
+    requires few { s.children.len ≤ 16 }
+    requires whole { over_slot s ≡ false }
     ensures { (view_slot result ≡ replaced_in other index (view_slot s)) × (over_slot result ≡ false) }
 {
     let children = s.children;

@@ -10,7 +10,7 @@ ghost use Rattle.repair.specs.Whole.{repaired, Returns, Packs};
 ghost use Rattle.settling.specs.Settle.{Left};
 
 use crate::Repairing;
-use columns::{pack, slots, unpack};
+use columns::{pack, unpack};
 use noting::listing;
 use rules::model::{TileId, TileTree};
 use rules::refusal::{Answer, Refusal};
@@ -66,7 +66,6 @@ pub fn repair(t: TileTree) -> Repairing
     ensures { (repaired result ≡ Rule.repair (view t)) × ((e : Refusal) → result.answer ≡ Answers.Refused e → result.tree ≡ t) }
 {
     let slots = t.slots;
-    slots::sized(slots);
     let top = t.root;
     let mut heads = [[0u64; 8]; 64];
     let mut ids = [[0u64; 16]; 64];
@@ -124,7 +123,6 @@ pub fn is_sound(t: TileTree) -> bool
     ensures { result ≡ sound (view t) }
 {
     let slots = t.slots;
-    slots::sized(slots);
     let top = t.root;
     let mut heads = [[0u64; 8]; 64];
     let mut ids = [[0u64; 16]; 64];

@@ -4,7 +4,7 @@ ghost use Rattle.std.proofs.Math.ListN.{get_elem?};
 ghost use Rattle.rules.specs.Tree as Tree;
 ghost use Rattle.rules.specs.Tree.{view_slot, over_slot, panes_of};
 ghost use Rattle.rules.specs.Operations as Rule;
-ghost use Rattle.nodes.specs.Parts.{is_full, Rows, IsGroup, reordered_in};
+ghost use Rattle.nodes.specs.Parts.{is_full, IsGroup, reordered_in};
 
 use rules::model::{Ids, Kind, Slot};
 use sifting::panes;
@@ -65,7 +65,8 @@ fn clamped(index: Option<usize>, n: usize) -> usize
 
 // A group with the pane put in, and active.
 pub fn tabbed_in(s: Slot, pane: u64, index: Option<usize>) -> Slot
-    requires { (over_slot s ≡ false) × (is_full s ≡ false) × Rows s }
+    requires whole { over_slot s ≡ false }
+    requires roomy { is_full s ≡ false }
     ensures { (view_slot result ≡ Rule.tabbed_in pane index (view_slot s)) × (over_slot result ≡ false) }
 {
     let k = s.kind;
@@ -87,7 +88,9 @@ pub fn tabbed_in(s: Slot, pane: u64, index: Option<usize>) -> Slot
 
 // Where the pane at a place lands: an index within what is left without it.
 pub fn landing(s: Slot, from: usize, index: usize) -> usize
-    requires { (over_slot s ≡ false) × IsGroup (view_slot s) × (from < length (panes_of (view_slot s))) }
+    requires whole { over_slot s ≡ false }
+    requires group { IsGroup (view_slot s) }
+    requires inside { from < length (panes_of (view_slot s)) }
     ensures { (result ≡ Rule.landing from index (panes_of (view_slot s))) × (result < length (panes_of (view_slot s))) }
 {
     let given = s.panes;
@@ -97,7 +100,8 @@ pub fn landing(s: Slot, from: usize, index: usize) -> usize
 
 // The active pane's place once the panes stand in another order.
 fn kept_active(given: Ids, active: usize, moved: Ids) -> usize
-    requires { (given.len ≤ 16) × (moved.len ≤ 16) × (length given.at ≡ 16) }
+    requires few { given.len ≤ 16 }
+    requires few_moved { moved.len ≤ 16 }
     ensures { result ≡ Rule.kept_active (get_elem? (Tree.ids given) active) active (Tree.ids moved) }
 {
     if given.len <= active {
@@ -108,7 +112,10 @@ fn kept_active(given: Ids, active: usize, moved: Ids) -> usize
 
 // A group with the pane moved from one place to another.
 pub fn reordered(s: Slot, pane: u64, from: usize, to: usize) -> Slot
-    requires { (over_slot s ≡ false) × IsGroup (view_slot s) × (from < length (panes_of (view_slot s))) × (to < length (panes_of (view_slot s))) × Rows s }
+    requires whole { over_slot s ≡ false }
+    requires group { IsGroup (view_slot s) }
+    requires inside { from < length (panes_of (view_slot s)) }
+    requires lands { to < length (panes_of (view_slot s)) }
     ensures { (view_slot result ≡ reordered_in pane from to (view_slot s)) × (over_slot result ≡ false) }
 {
     let given = s.panes;

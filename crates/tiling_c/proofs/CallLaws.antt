@@ -26,7 +26,9 @@ use Rattle.drafting.specs.Draft.{DraftedIn}
 use Rattle.columns.specs.Shown.{arena_from}
 use Rattle.settling.specs.Settle.{Comes}
 use Rattle.settling.specs.declared.Settled.{Settled}
-use Rattle.docking.specs.Steps.{Comes as Becomes}
+use Rattle.docking.specs.Steps.{answered, Comes as Becomes}
+use Rattle.docking.proofs.FinishLaws.{ended, comes-answer, comes-tree}
+use Rattle.std.specs.Prelude.{Option as Maybe, Result}
 use Rattle.docking.specs.declared.AppliedIn.{AppliedIn}
 use Rattle.layout.specs.Whole.{LaysOut}
 use Rattle.layout.specs.declared.LaidOut.{LaidOut}
@@ -115,18 +117,21 @@ pub applies-bad : (l : Lot) (w : List ℕ) (f : Float) (out : List ℕ) → (lot
 applies-bad l w f out b = record { bad = λ e. (refl, refl, refl); good = λ e. absurd (no_both (lot_ok l && op_ok w) b e) }
 
 -- a is the arena lent, and the rule's answer for it is what the columns came to
-pub applies-good : (l : Lot) (w : List ℕ) (f : Float) (out : List ℕ) (a : Arena) (op : TileOp) (hs xs : List (List ℕ)) (ss ms : List (List Float)) (d : AppliedIn) (l' : Lot) (out' : List ℕ) (n : ℕ) → (lot_ok l && op_ok w) ≡ true
-    → a ≡ lent l → op ≡ op_from w f → Becomes a (apply a op) d hs xs ss ms → Tells d.answer 0 0 out' n → Keeps n (arena_from d.root d.revision hs xs ss ms) l l' → Applies l w f out l' out' n
-applies-good l w f out a op hs xs ss ms d l' out' n g v o C T K =
+pub applies-good : (l : Lot) (w : List ℕ) (f : Float) (out : List ℕ) (a : Arena) (op : TileOp) (hs xs : List (List ℕ)) (ss ms : List (List Float)) (r : Result (Maybe AppliedIn) Refusal) (d : AppliedIn) (l' : Lot) (out' : List ℕ) (n : ℕ) → (lot_ok l && op_ok w) ≡ true
+    → a ≡ lent l → op ≡ op_from w f → Becomes a (apply a op) r hs xs ss ms → d ≡ ended r a → (y : Answer) → y ≡ answered r → Tells y 0 0 out' n → Keeps n (arena_from d.root d.revision hs xs ss ms) l l' → Applies l w f out l' out' n
+applies-good l w f out a op hs xs ss ms r d l' out' n g v o C k y q T K =
     record {
       bad = λ e. absurd (no_both (lot_ok l && op_ok w) e g);
       good = λ e. subst (λ (x : Applied). Changes x l l' out' n) (λ z. apply (v z) (o z))
           (record {
-            told = subst (λ (y : Answer). Tells y 0 0 out' n) C.answer T;
-            accepted = λ p. let q = C.answer ∙ p in subst (λ (y : Arena). Holds y l') (sym (C.tree q).0) (K.stored (zero-accepted d.answer n T.number q));
-            refused = λ f p. K.left (not-refused d.answer n T.number f (C.answer ∙ p));
+            told = subst (λ (z : Answer). Tells z 0 0 out' n) is T;
+            accepted = λ p. subst (λ (z : Arena). Holds z l') (sym (comes-tree a (apply a op) hs xs ss ms r C p ∙ ap (λ (z : AppliedIn). arena_from z.root z.revision hs xs ss ms) (sym k))) (K.stored (zero-accepted y n T.number (is ∙ p)));
+            refused = λ f p. K.left (not-refused y n T.number f (is ∙ p));
           });
     }
+  where
+    is : y ≡ (apply a op).answer
+    is = q ∙ comes-answer a (apply a op) hs xs ss ms r C
 
 -- ---- layout_into
 

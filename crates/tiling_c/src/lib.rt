@@ -14,6 +14,7 @@ ghost use Rattle.tiling_c.specs.Calls.{Builds, Repairs, sound_code, Applies, Lay
 use coding::{codes, operation};
 use columns::unpack;
 use crossing::{actions, arena, tidy, told};
+use docking::AppliedIn;
 use lending::back;
 use rules::frame::LayoutInput;
 
@@ -156,13 +157,18 @@ pub extern "C" fn tiling_apply(
     let old_minima = *minima;
     tidy::tidy_lent(heads);
     let given = *top;
-    let d = ops::whole::apply_columns(given[0], given[1], op, heads, ids, shares, minima);
-    let answer = d.answer;
+    let done = ops::whole::apply_columns(given[0], given[1], op, heads, ids, shares, minima);
+    let answer = ops::finish::answer_of(done);
     let n = told::tell(answer, 0, 0, out);
+    let same = AppliedIn {
+        root: given[0],
+        revision: given[1],
+    };
+    let end = done.unwrap_or(None).unwrap_or(same);
     back::keep_columns(
         n,
-        d.root,
-        d.revision,
+        end.root,
+        end.revision,
         &old_heads,
         &old_ids,
         &old_shares,

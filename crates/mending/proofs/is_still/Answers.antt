@@ -11,7 +11,7 @@ returns-then-heads_over c =
 
 pub calm_columns-requires : goal.calm_columns-requires
 calm_columns-requires c =
-    (c.requires.0, c.requires.1, c.requires.2, c.requires.3, slim-heads c.args.heads.now (sym c.heads_over.ensures ∙ c.if-heads_over.false))
+    slim-heads c.args.heads.now (sym c.heads_over.ensures ∙ c.if-heads_over.false)
 
 pub returns : goal.returns
 returns c =

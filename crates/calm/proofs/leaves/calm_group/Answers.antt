@@ -5,9 +5,9 @@ use Rattle.calm.proofs.leaves.calm_group.Goals as goal
 pub returns-then-h : goal.returns-then-h
 returns-then-h c =
     let a = c.args in
-    group-no a.h a.row.now a.seen.now a.n c.if-h.true c.stopped.result c.stopped.ensures.0 c.stopped.ensures.1
+    group-no a.h a.row.now a.seen.now a.n c.if-h.true
 
 pub returns : goal.returns
 returns c =
     let a = c.args in
-    group-yes a.h a.row.now a.seen.now a.n c.if-h.false c.requires.0 c.requires.2 _ c.calm_panes.result c.calm_panes.ensures
+    group-yes a.h a.row.now a.seen.now a.n c.if-h.false c.requires.few c.told-row _ c.calm_panes.result c.calm_panes.ensures

@@ -6,7 +6,7 @@ use Rattle.calm.proofs.leaves.calm_pane.Goals as goal
 pub returns-then-saw : goal.returns-then-saw
 returns-then-saw c =
     let a = c.args in
-    sights-no a.pane a.seen.now a.n c.stopped.result (sym c.saw.ensures ∙ c.if-saw.true) c.stopped.ensures.0 c.stopped.ensures.1
+    sights-no a.pane a.seen.now a.n (sym c.saw.ensures ∙ c.if-saw.true)
 
 pub returns : goal.returns
 returns c =

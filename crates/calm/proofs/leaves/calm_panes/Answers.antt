@@ -1,40 +1,33 @@
 -- `calm::leaves::calm_panes` is the rule `calm_panes`: its loop, by what is left. Assumes nothing.
+use mathlib.Core.Path.{sym, subst}
 use native.Mathlib.Omega.{arith}
-use borrow.Author.Tests.{not-true, not-false}
+use Rattle.std.specs.Prelude.{Option}
+use Prim.Native.Nat.{ℕ}
+use mathlib.Core.List.{[], ◌∷◌}
 use lib.ListN.{take, get_or, length-take}
 use lib.Seq.{get_or-take, length-take-le}
-use Rattle.calm.proofs.Laws.{looking-none, looking-more, looking-stop, looking-done}
+use Rattle.calm.specs.Reads.{Sights}
+use Rattle.calm.proofs.Laws.{looking-more, looking-stop, looking-done}
 use Rattle.calm.proofs.leaves.calm_panes.Goals as goal
 
-pub loop-j-init : goal.loop-j-init
-loop-j-init c = let a = c.args in looking-none (take a.count a.row.now) a.seen.now a.n
-
-pub calm_pane-c-requires : goal.calm_pane-c-requires
-calm_pane-c-requires c =
-    omega (arith, c.loop-j.invariant.most, c.loop-j.invariant.few, c.loop-j-test.true, c.requires.0, c.requires.1)
-
-pub returns-then-not-c : goal.returns-then-not-c
-returns-then-not-c c =
+pub returns-in_err-m : goal.returns-in_err-m
+returns-in_err-m c =
     let a = c.args in
     let ps = take a.count a.row.now in
     let h = c.loop-j-test.true in
-    let long = length-take-le a.count a.row.now (omega (arith, c.requires.2, c.requires.0)) in
-    let k = c.calm_pane-c in
-    looking-stop ps a.seen.now a.n c.loop-j.seen c.loop-j.m c.loop-j.j c.loop-j.invariant (omega (arith, long, h)) (get_or a.row.now c.loop-j.j 0) (get_or-take a.count a.row.now c.loop-j.j 0 h)
-    k.new.seen k.result k.ensures (not-true k.result.ok c.if-not-c.true) c.stopped.result c.stopped.ensures.0 c.stopped.ensures.1
-
-pub loop-j-smaller : goal.loop-j-smaller
-loop-j-smaller c = omega (arith, c.loop-j-test.true)
+    let long = length-take-le a.count a.row.now (omega (arith, c.told-row)) in
+    let S = looking-stop ps a.seen.now a.n c.loop-j.seen c.loop-j.m c.loop-j.j c.loop-j.invariant (omega (arith, long, h)) (get_or a.row.now c.loop-j.j 0) (get_or-take a.count a.row.now c.loop-j.j 0 h) c.calm_pane.new.seen
+    (subst (λ (r : Option ℕ). Sights (get_or a.row.now c.loop-j.j 0 ∷ []) c.loop-j.seen c.loop-j.m c.calm_pane.new.seen r) c.in_err-m.was c.calm_pane.ensures) in
+    subst (λ (r : Option ℕ). Sights ps a.seen.now a.n c.calm_pane.new.seen r) (sym c.from_residual.ensures) S
 
 pub loop-j-preserved : goal.loop-j-preserved
 loop-j-preserved c =
     let a = c.args in
     let ps = take a.count a.row.now in
     let h = c.loop-j-test.true in
-    let long = length-take-le a.count a.row.now (omega (arith, c.requires.2, c.requires.0)) in
-    let k = c.calm_pane-c in
-    looking-more ps a.seen.now a.n c.loop-j.seen c.loop-j.m c.loop-j.j c.loop-j.invariant (omega (arith, long, h)) (get_or a.row.now c.loop-j.j 0) (get_or-take a.count a.row.now c.loop-j.j 0 h)
-    k.new.seen k.result k.ensures (not-false k.result.ok c.if-not-c.false)
+    let long = length-take-le a.count a.row.now (omega (arith, c.told-row)) in
+    looking-more ps a.seen.now a.n c.loop-j.seen c.loop-j.m c.loop-j.j c.loop-j.invariant (omega (arith, long, h)) (get_or a.row.now c.loop-j.j 0) (get_or-take a.count a.row.now c.loop-j.j 0 h) c.calm_pane.new.seen
+    c.in_ok-m.m (subst (λ (r : Option ℕ). Sights (get_or a.row.now c.loop-j.j 0 ∷ []) c.loop-j.seen c.loop-j.m c.calm_pane.new.seen r) c.in_ok-m.was c.calm_pane.ensures)
 
 pub returns : goal.returns
 returns c =

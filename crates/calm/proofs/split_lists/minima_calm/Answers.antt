@@ -12,13 +12,13 @@ use Rattle.calm.proofs.split_lists.minima_calm.Goals as goal
 pub returns-then-n-eq0 : goal.returns-then-n-eq0
 returns-then-n-eq0 c =
     let a = c.args in
-    let l = length-take-le a.n a.row.now (omega (arith, c.requires.0, c.requires.1)) in
+    let l = length-take-le a.n a.row.now (omega (arith, c.told-row)) in
     minima-none a.count (take a.n a.row.now) (l ∙ c.if-n-eq0.true)
 
 pub returns-then-count-n : goal.returns-then-count-n
 returns-then-count-n c =
     let a = c.args in
-    let l = length-take-le a.n a.row.now (omega (arith, c.requires.0, c.requires.1)) in
+    let l = length-take-le a.n a.row.now (omega (arith, c.told-row)) in
     minima-many a.count (take a.n a.row.now) (omega (arith, l, c.if-count-n.true))
 
 pub returns-then-row-n : goal.returns-then-row-n
@@ -26,7 +26,7 @@ unfolding of_bits
 returns-then-row-n c =
     let a = c.args in
     let some-there : 0 < a.n = pos_of_ne-zero c.if-n-eq0.false in
-    let l = length-take-le a.n a.row.now (omega (arith, c.requires.0, c.requires.1)) in
+    let l = length-take-le a.n a.row.now (omega (arith, c.told-row)) in
     minima-cut a.count (take a.n a.row.now) (get_or a.row.now (a.n - 1) nan) nan (omega (arith, l)) (last-in a.n a.row.now nan some-there l) c.if-row-n.true
 
 pub returns : goal.returns
@@ -34,6 +34,6 @@ unfolding of_bits
 returns c =
     let a = c.args in
     let some-there : 0 < a.n = pos_of_ne-zero c.if-n-eq0.false in
-    let l = length-take-le a.n a.row.now (omega (arith, c.requires.0, c.requires.1)) in
+    let l = length-take-le a.n a.row.now (omega (arith, c.told-row)) in
     c.minima_ok.ensures
     ∙ minima-good a.count (take a.n a.row.now) (get_or a.row.now (a.n - 1) nan) nan (omega (arith, l)) (last-in a.n a.row.now nan some-there l) (omega (arith, l, c.if-count-n.false)) c.if-row-n.false

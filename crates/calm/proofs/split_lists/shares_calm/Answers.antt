@@ -9,11 +9,11 @@ use Rattle.calm.proofs.split_lists.shares_calm.Goals as goal
 pub returns-then-n-count : goal.returns-then-n-count
 returns-then-n-count c =
     let a = c.args in
-    let l = length-take-le a.n a.row.now (omega (arith, c.requires.0, c.requires.1)) in
+    let l = length-take-le a.n a.row.now (omega (arith, c.told-row)) in
     shares-other a.count (take a.n a.row.now) (λ e. c.if-n-count.true (omega (arith, l, e)))
 
 pub returns : goal.returns
 returns c =
     let a = c.args in
-    let l = length-take-le a.n a.row.now (omega (arith, c.requires.0, c.requires.1)) in
+    let l = length-take-le a.n a.row.now (omega (arith, c.told-row)) in
     c.shares_ok.ensures ∙ shares-good a.count (take a.n a.row.now) (l ∙ c.if-n-count.false)

@@ -19,5 +19,5 @@ returns c =
     let x = c.args in
     record {
       even = c.set_node.ensures.1;
-      steps = λ v. activate-other (arena_from x.root v x.heads.now x.ids.now x.shares.now x.minima.now) (even-long x.heads.now x.ids.now x.shares.now x.minima.now c.requires) x.group x.index (view_slot c.get_node-s.result) c.get_node-s.ensures.0 _ _ c.first_empty-spare.result (sym c.active_is.ensures ∙ c.if-active_is.false) c.set_active-next.ensures.0 c.set_node.ensures.0 (c.first_empty-spare.ensures x.ids.now x.shares.now x.minima.now c.requires.ids c.requires.shares c.requires.minima);
+      steps = λ v. activate-other (arena_from x.root v x.heads.now x.ids.now x.shares.now x.minima.now) (even-long x.heads.now x.ids.now x.shares.now x.minima.now c.requires) x.group x.index (view_slot c.get_node-s.result) c.get_node-s.ensures.0 _ _ c.next_empty-spare.result (sym c.active_is.ensures ∙ c.if-active_is.false) c.set_active-next.ensures.0 c.set_node.ensures.0 (c.next_empty-spare.ensures.right x.ids.now x.shares.now x.minima.now c.requires.ids c.requires.shares c.requires.minima);
     }

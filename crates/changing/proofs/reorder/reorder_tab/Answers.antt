@@ -12,7 +12,7 @@ use Rattle.changing.proofs.reorder.reorder_tab.Goals as goal
 pub reorder_in-requires : goal.reorder_in-requires
 reorder_in-requires c =
     let x = c.args in
-    (c.requires, c.get_node-s.ensures.1, is-group c.get_node-s.result _ c.in-Tabs.is)
+    record { even = c.requires; whole = c.get_node-s.ensures.1; group = is-group c.get_node-s.result _ c.in-Tabs.is }
 
 pub returns-in-Empty : goal.returns-in-Empty
 returns-in-Empty c =

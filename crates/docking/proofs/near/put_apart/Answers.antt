@@ -4,6 +4,8 @@ use Rattle.rules.specs.Tree.{view_slot}
 use Rattle.columns.specs.Columns.{nodes_from}
 use Rattle.nodes.specs.Parts.{holder_of}
 use Rattle.docking.proofs.NearLaws.{put-loose, put-rooted, put-unders}
+use Rattle.rules.specs.declared.refusal.Refusal.TheVariants.{InvalidOperation}
+use Rattle.docking.proofs.TakenLaws.{none_was, some_was, tried, refuses}
 use Rattle.docking.proofs.near.put_apart.Goals as goal
 
 pub returns-then-target-root : goal.returns-then-target-root
@@ -14,15 +16,15 @@ returns-then-target-root c =
 pub put_under-requires : goal.put_under-requires
 put_under-requires c =
     let x = c.args in
-    let (a, W) = c.requires.2 in
-    (c.requires.0, c.requires.1, (a, put-unders x.root x.room (nodes_from x.heads.now x.ids.now x.shares.now x.minima.now) (view_slot x.new) x.b a (holder_of x.parent) W.0 _ _ (ap holder_of c.in-In.is) W.1 c.if-target-root.false))
+    let (a, W) = c.requires.from in
+    record { even = c.requires.even; whole = c.requires.whole; from = (a, put-unders x.root x.room (nodes_from x.heads.now x.ids.now x.shares.now x.minima.now) (view_slot x.new) x.b a (holder_of x.parent) W.0 _ _ (ap holder_of (some_was c.ok_or.ensures.ok_part c.in_ok-p.was)) W.1 c.if-target-root.false) }
 
-pub returns-in-Nothing : goal.returns-in-Nothing
-returns-in-Nothing c =
+pub returns-in_err-p : goal.returns-in_err-p
+returns-in_err-p c =
     let x = c.args in
-    record { even = c.requires.0; steps = λ a W. put-loose x.root x.room (nodes_from x.heads.now x.ids.now x.shares.now x.minima.now) (view_slot x.new) x.b a (holder_of x.parent) W.0 c.if-target-root.false (ap holder_of c.in-Nothing.is) }
+    record { even = c.requires.even; steps = λ a W. refuses a _ InvalidOperation _ c.from_residual.result (tried c.from_residual.result c.ok_or.ensures.value c.ok_or.ensures.ok_part c.in_err-p.was c.from_residual.ensures.1) (put-loose x.root x.room (nodes_from x.heads.now x.ids.now x.shares.now x.minima.now) (view_slot x.new) x.b a (holder_of x.parent) W.0 c.if-target-root.false (ap holder_of (none_was c.ok_or.ensures.ok_part c.in_err-p.was))) }
 
-pub returns-in-In : goal.returns-in-In
-returns-in-In c =
+pub returns : goal.returns
+returns c =
     let x = c.args in
-    record { even = c.put_under.ensures.even; steps = λ a W. c.put_under.ensures.steps a (put-unders x.root x.room (nodes_from x.heads.now x.ids.now x.shares.now x.minima.now) (view_slot x.new) x.b a (holder_of x.parent) W.0 _ _ (ap holder_of c.in-In.is) W.1 c.if-target-root.false) }
+    record { even = c.put_under.ensures.even; steps = λ a W. c.put_under.ensures.steps a (put-unders x.root x.room (nodes_from x.heads.now x.ids.now x.shares.now x.minima.now) (view_slot x.new) x.b a (holder_of x.parent) W.0 _ _ (ap holder_of (some_was c.ok_or.ensures.ok_part c.in_ok-p.was)) W.1 c.if-target-root.false) }

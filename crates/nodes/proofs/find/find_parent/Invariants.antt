@@ -1,7 +1,6 @@
 -- `nodes::find::find_parent` passes one row after another until one has the tile among its children. Assumes nothing.
 use mathlib.Core.Path.{◌≡◌}
 use mathlib.Core.List.{List}
-use Prim.Native.Nat.{◌≤◌, ◌-◌}
 use lib.Ieee.{Float}
 use lib.ListN.{length}
 use Rattle.columns.specs.Columns.{nodes_from}
@@ -9,7 +8,4 @@ use Rattle.nodes.proofs.FindLaws.{Seeking}
 use Rattle.nodes.proofs.find.find_parent.Given as goal
 
 abbrev pub invariant-loop-i : goal.invariant-loop-i
-invariant-loop-i l = (l.i ≤ 64) × ((ss ms : List (List Float)) → length ss ≡ 64 → length ms ≡ 64 → Seeking (nodes_from l.heads l.ids ss ms) l.target l.i)
-
-abbrev pub decreases-loop-i : goal.decreases-loop-i
-decreases-loop-i l = 64 - l.i
+invariant-loop-i l = (ss ms : List (List Float)) → length ss ≡ 64 → length ms ≡ 64 → Seeking (nodes_from l.heads l.ids ss ms) l.target l.i

@@ -13,7 +13,7 @@ returns-then-h-eq1 c =
 
 pub in_tabs-requires : goal.in_tabs-requires
 in_tabs-requires c =
-    head_few (get_or c.args.heads.now c.args.i []) c.requires.3
+    head_few (get_or c.args.heads.now c.args.i []) c.requires.whole
 
 pub returns-then-h-eq2 : goal.returns-then-h-eq2
 returns-then-h-eq2 c =

@@ -8,7 +8,7 @@ use Rattle.nodes.proofs.find.place_in.Goals as goal
 
 pub position-requires : goal.position-requires
 position-requires c =
-    (omega arith, head_few (get_or c.args.heads.now c.args.i []) c.requires.3)
+    (omega arith, head_few (get_or c.args.heads.now c.args.i []) c.requires.whole)
 
 pub returns-then-h-gt2 : goal.returns-then-h-gt2
 returns-then-h-gt2 c =

@@ -10,14 +10,14 @@ use Rattle.nodes.proofs.slots.set_node.Goals as goal
 pub returns-then-i-ge64 : goal.returns-then-i-ge64
 returns-then-i-ge64 c =
     let x = c.args in (
-      sym (set_past (nodes_from x.heads.now x.ids.now x.shares.now x.minima.now) x.id.slot (view_slot x.s) (omega (arith, even-long x.heads.now x.ids.now x.shares.now x.minima.now c.requires.0, c.if-i-ge64.true))),
-      c.requires.0,
+      sym (set_past (nodes_from x.heads.now x.ids.now x.shares.now x.minima.now) x.id.slot (view_slot x.s) (omega (arith, even-long x.heads.now x.ids.now x.shares.now x.minima.now c.requires.even, c.if-i-ge64.true))),
+      c.requires.even,
     )
 
 pub returns : goal.returns
 returns c =
     let x = c.args in
     let P = c.put.ensures in (
-      put-nodes x.heads.now x.ids.now x.shares.now x.minima.now c.requires.0 x.id.slot x.s _ _ _ _ P,
-      put-even x.heads.now x.ids.now x.shares.now x.minima.now c.requires.0 x.id.slot x.s _ _ _ _ P c.requires.1,
+      put-nodes x.heads.now x.ids.now x.shares.now x.minima.now c.requires.even x.id.slot x.s _ _ _ _ P,
+      put-even x.heads.now x.ids.now x.shares.now x.minima.now c.requires.even x.id.slot x.s _ _ _ _ P c.requires.whole,
     )

@@ -9,7 +9,7 @@ use Rattle.nodes.proofs.take.removed_from.Goals as goal
 pub remove-left-requires : goal.remove-left-requires
 remove-left-requires c =
     let e = c.in-Tabs.is in
-    (omega arith, (tabs-place c.args.s _ e c.args.index c.requires.0, tabs-few c.args.s _ e c.requires.1))
+    (omega arith, (tabs-place c.args.s _ e c.args.index c.requires.inside, tabs-few c.args.s _ e c.requires.whole))
 
 pub returns-in-Tabs : goal.returns-in-Tabs
 returns-in-Tabs c =
@@ -19,4 +19,4 @@ returns-in-Tabs c =
 pub returns-in-Split : goal.returns-in-Split
 returns-in-Split c =
     let s = c.args.s in
-    (unmoved (removed_from c.args.index) s (Split _) c.in-Split.is refl, c.requires.1)
+    (unmoved (removed_from c.args.index) s (Split _) c.in-Split.is refl, c.requires.whole)

@@ -1,43 +1,43 @@
 -- `ops::finish::change` adds one to the revision and repairs, or refuses. Assumes nothing.
-use mathlib.Core.Path.{refl, sym, ap, ◌∙◌}
+use mathlib.Core.Path.{sym, ap, ◌∙◌}
 use Prim.Native.Nat.{suc, ◌<◌}
 use native.Mathlib.Omega.{arith}
 use native.Mathlib.Numerals.{add-one}
-use Rattle.rules.specs.Operations.{finish, Applied, last-revision}
-use Rattle.rules.specs.declared.refusal.Refusal.TheVariants.{RevisionExhausted}
-use Rattle.docking.proofs.FinishLaws.{comes-refused, comes-new, last-refused, change-taken, change-refused}
-use Rattle.rules.specs.Operations as Rule
+use Rattle.rules.specs.Tree.{Arena}
+use Rattle.rules.specs.Operations.{accepted, last-revision}
+use Rattle.docking.proofs.FinishLaws.{last-refused, change-taken, change-refused}
+use Rattle.columns.specs.Shown.{arena_from}
 use Rattle.columns.specs.RowLaws.{even-plain, plain-even}
+use Rattle.docking.proofs.TakenLaws.{exits}
+use Rattle.ops.proofs.WholeLaws.{comes-on}
 use Rattle.ops.proofs.finish.change.Goals as goal
 
 pub returns-then-revision-eq18446744073709551615 : goal.returns-then-revision-eq18446744073709551615
 returns-then-revision-eq18446744073709551615 c =
     let x = c.args in
-    λ a s e M. comes-refused a (Rule.finish a s) c.refused.result _ _ _ _ RevisionExhausted (last-refused x.heads.now x.ids.now x.shares.now x.minima.now c.requires a s x.top x.spare M (e ∙ c.if-revision-eq18446744073709551615.true)) c.refused.ensures.0 c.refused.ensures.1
+    λ a s e M. last-refused x.heads.now x.ids.now x.shares.now x.minima.now c.requires a s x.to.root x.to.spare M (e ∙ c.if-revision-eq18446744073709551615.true)
 
 pub settle-done-requires : goal.settle-done-requires
 settle-done-requires c =
     let x = c.args in
     (even-plain x.heads.now x.ids.now x.shares.now x.minima.now c.requires, c.requires.whole)
 
-pub returns-in-Ok : goal.returns-in-Ok
-returns-in-Ok c =
+pub returns : goal.returns
+returns c =
     let x = c.args in
     let S = c.settle-done.ensures in
-    let yes = c.in-Ok.is in
+    let yes = c.in_ok-done.was in
     let lt : x.revision < last-revision = omega (arith, c.if-revision-eq18446744073709551615.false) in
     λ a s e M.
-    let k = S.right (suc a.revision) M.change.free M.inside M.first in
-    let F = change-taken x.heads.now x.ids.now x.shares.now x.minima.now c.requires a s x.top x.spare M (omega (arith, lt, e)) (sym k.answer ∙ yes) in
-    comes-new a (Rule.finish a s) _ _ _ _ _ (ap (λ (y : Applied). y.answer) F) refl refl
-    (suc a.revision) (ap (λ (y : Applied). y.tree) F ∙ k.tree yes) (ap suc e ∙ sym (add-one x.revision))
-    (plain-even _ _ _ _ (S.left.plain yes) (S.left.whole yes))
+    let k = S.right (suc a.revision) M.change.free M.inside (c.number_of-spare.ensures M.change.free M.first) in
+    let F = change-taken x.heads.now x.ids.now x.shares.now x.minima.now c.requires a s x.to.root x.to.spare M (omega (arith, lt, e)) (sym k.answer ∙ yes) in
+    (F ∙ ap (λ (b : Arena). accepted b) (k.tree yes ∙ (λ z. arena_from c.settle-done.result.root ((ap suc e ∙ sym (add-one x.revision)) z) c.settle-done.new.heads c.settle-done.new.ids c.settle-done.new.shares c.settle-done.new.minima)), plain-even _ _ _ _ (S.left.plain yes) (S.left.whole yes))
 
-pub returns-in-Err : goal.returns-in-Err
-returns-in-Err c =
+pub returns-in_err-done : goal.returns-in_err-done
+returns-in_err-done c =
     let x = c.args in
     let S = c.settle-done.ensures in
     let lt : x.revision < last-revision = omega (arith, c.if-revision-eq18446744073709551615.false) in
     λ a s e M.
-    let k = S.right (suc a.revision) M.change.free M.inside M.first in
-    comes-refused a (Rule.finish a s) c.refused-in-Err.result _ _ _ _ _ (change-refused x.heads.now x.ids.now x.shares.now x.minima.now c.requires a s x.top x.spare M (omega (arith, lt, e)) _ (sym k.answer ∙ c.in-Err.is)) c.refused-in-Err.ensures.0 c.refused-in-Err.ensures.1
+    let k = S.right (suc a.revision) M.change.free M.inside (c.number_of-spare.ensures M.change.free M.first) in
+    comes-on a _ _ _ _ _ c.from_residual.result _ (exits c.from_residual.result c.from_residual.ensures.1) (change-refused x.heads.now x.ids.now x.shares.now x.minima.now c.requires a s x.to.root x.to.spare M (omega (arith, lt, e)) _ (sym k.answer ∙ c.in_err-done.was))

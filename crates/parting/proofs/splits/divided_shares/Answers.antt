@@ -16,8 +16,8 @@ use Rattle.parting.proofs.splits.divided_shares.Goals as goal
 pub insert-requires : goal.insert-requires
 insert-requires c =
     let n = c.replace-set.ensures.size in
-    let w = index-within c.args.b.placement c.args.index c.args.shares.len c.requires.0 in
-    (omega arith, (subst (λ (k : ℕ). k ≤ c.replace-set.result.len) (sym c.insert_index-place.ensures) (omega (arith, w, n)), omega (arith, n, c.requires.1)))
+    let w = index-within c.args.b.placement c.args.index c.args.shares.len c.requires.inside in
+    (omega arith, (subst (λ (k : ℕ). k ≤ c.replace-set.result.len) (sym c.insert_index-place.ensures) (omega (arith, w, n)), omega (arith, n, c.requires.roomy)))
 
 pub returns : goal.returns
 unfolding of_bits

@@ -5,4 +5,4 @@ use Rattle.parting.proofs.splits.replaced_in.Goals as goal
 
 pub returns : goal.returns
 returns c =
-    replaced-is c.args.s _ refl refl refl c.requires.2 c.args.other c.args.index c.requires.1 refl refl c.replace-kids.ensures
+    replaced-is c.args.s _ refl refl refl c.requires.whole c.args.other c.args.index c.requires.few refl refl c.replace-kids.ensures

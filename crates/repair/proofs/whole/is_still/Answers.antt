@@ -11,9 +11,7 @@ returns-then-heads_over c =
 
 pub calm_columns-requires : goal.calm_columns-requires
 calm_columns-requires c =
-    let x = c.args in
-    let p = c.requires in
-    (p.heads, p.ids, p.shares, p.minima, slim-heads x.heads.now (sym c.heads_over.ensures ∙ c.if-heads_over.false))
+    slim-heads c.args.heads.now (sym c.heads_over.ensures ∙ c.if-heads_over.false)
 
 pub returns : goal.returns
 returns c =

@@ -1,5 +1,7 @@
 -- `tabbing::groups::kept_active` meets its contract. Assumes nothing.
-use mathlib.Core.Path.{◌∙◌}
+use mathlib.Core.Path.{◌≡◌, ◌∙◌}
+use borrow.Author.Rules.{rules}
+use lib.ListN.{length}
 use native.Mathlib.Omega.{arith}
 use Rattle.rules.specs.Tree.{ids}
 use Rattle.nodes.proofs.GroupLaws.{kept-past, kept_here}
@@ -11,4 +13,5 @@ returns-then-given-active c = let x = c.args in kept-past x.given.len x.active x
 pub returns : goal.returns
 returns c =
     let x = c.args in
-    c.active_of.ensures ∙ kept_here x.given.len x.active x.given.at (ids x.moved) c.if-given-active.false (omega (arith, c.requires.0, c.requires.2))
+    let long : length x.given.at ≡ 16 = search rules in
+    c.active_of.ensures ∙ kept_here x.given.len x.active x.given.at (ids x.moved) c.if-given-active.false (omega (arith, c.requires.few, long))

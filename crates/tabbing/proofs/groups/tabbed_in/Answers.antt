@@ -1,6 +1,8 @@
 -- `tabbing::groups::tabbed_in` goes by the slot's kind. Assumes nothing.
 use native.Mathlib.Omega.{arith}
-use mathlib.Core.Path.{refl}
+use mathlib.Core.Path.{◌≡◌, refl}
+use borrow.Author.Rules.{rules}
+use lib.ListN.{length}
 use Rattle.rules.specs.Operations.{tabbed_in}
 use Rattle.rules.specs.declared.model.Kind.TheVariants.{Split}
 use Rattle.nodes.proofs.SlotLaws.{tabs-few, unmoved}
@@ -9,15 +11,16 @@ use Rattle.tabbing.proofs.groups.tabbed_in.Goals as goal
 
 pub insert-more-requires : goal.insert-more-requires
 insert-more-requires c =
-    (omega arith, (c.clamped-place.ensures.1, roomy c.args.s _ c.in-Tabs.is c.requires.1))
+    (omega arith, (c.clamped-place.ensures.1, roomy c.args.s _ c.in-Tabs.is c.requires.roomy))
 
 pub returns-in-Tabs : goal.returns-in-Tabs
 returns-in-Tabs c =
     let x = c.args in
     let e = c.in-Tabs.is in
-    tabbed x.s _ _ e refl x.pane x.index c.requires.2.panes (tabs-few x.s _ e c.requires.0) c.clamped-place.ensures.0 c.clamped-place.result c.clamped-place.ensures.0 c.insert-more.ensures
+    let long : length x.s.panes.at ≡ 16 = search rules in
+    tabbed x.s _ _ e refl x.pane x.index long (tabs-few x.s _ e c.requires.whole) c.clamped-place.ensures.0 c.clamped-place.result c.clamped-place.ensures.0 c.insert-more.ensures
 
 pub returns-in-Split : goal.returns-in-Split
 returns-in-Split c =
     let x = c.args in
-    (unmoved (tabbed_in x.pane x.index) x.s (Split _) c.in-Split.is refl, c.requires.0)
+    (unmoved (tabbed_in x.pane x.index) x.s (Split _) c.in-Split.is refl, c.requires.whole)
