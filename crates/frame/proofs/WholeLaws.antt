@@ -19,7 +19,7 @@ use Rattle.rules.specs.declared.frame.SplitChildFrame.{SplitChildFrame}
 use Rattle.rules.specs.declared.frame.SplitHandleFrame.{SplitHandleFrame}
 use Rattle.rules.specs.declared.frame.FrameItemId.{FrameItemId}
 use Rattle.rules.specs.Refusals.{Answer}
-use Rattle.rules.specs.Refusals.{Accepted, Refused}
+use Rattle.rules.specs.Refusals.{Accepted}
 use Rattle.frames.specs.Fits.{panes-fit, bars-fit, tabs-fit, children-fit, handles-fit, focus-fits, paint-fits}
 use Rattle.streaming.specs.Stream.{stream, items_from, items_in}
 use Rattle.layout.specs.Whole.{LaysOut}

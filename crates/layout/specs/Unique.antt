@@ -6,7 +6,6 @@ use Rattle.rules.specs.Tree.{Arena}
 use Rattle.rules.specs.Frame.{Laid}
 use Rattle.rules.specs.declared.frame.LayoutInput.{LayoutInput}
 use Rattle.rules.specs.Refusals.{Answer}
-use Rattle.rules.specs.Refusals.{Accepted, Refused}
 use Rattle.streaming.specs.Stream.{code_of, sides_of, stream, items_in}
 use Rattle.layout.specs.Whole.{LaysOut}
 use Rattle.layout.specs.declared.LaidOut.{LaidOut}

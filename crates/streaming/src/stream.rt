@@ -35,13 +35,7 @@ pub fn code_of(e: Entry) -> [u64; 5]
     match e {
         Entry::Focus(pane) => [FOCUS, 0, pane, 0, 0],
         Entry::Pane(f) => [PANE, f.tile.slot, f.pane, 0, 0],
-        Entry::TabBar(f) => [
-            TAB_BAR,
-            f.group.slot,
-            f.active_pane,
-            0,
-            f.placement as u64,
-        ],
+        Entry::TabBar(f) => [TAB_BAR, f.group.slot, f.active_pane, 0, f.placement as u64],
         Entry::Tab(f) => [TAB, f.group.slot, f.pane, f.index as u64, f.active as u64],
         Entry::SplitChild(f) => [SPLIT_CHILD, f.split.slot, f.child.slot, f.index as u64, 0],
         Entry::SplitHandle(f) => [
