@@ -5,8 +5,8 @@ use Prim.Native.Nat.{ℕ, zero, suc, ◌+◌, ◌-◌, ◌≤◌, ◌<◌}
 use native.Mathlib.Nat.{sub-zero}
 use native.Mathlib.Numerals.{add-one}
 use native.Mathlib.Omega.{arith}
-use lib.ListN.{length, get_or, take, drop, set, length-append, length-drop, length-set, replicate}
-use lib.Seq.{take_at, drop_at, take-suc, take-suc-set, drop-set-lt, drop-drop}
+use lib.ListN.{length, get_or, take, drop, set, length-set, replicate}
+use lib.Seq.{take-suc, take-suc-set, drop-set-lt, drop-drop}
 use lib.Ieee.{Float}
 use Rattle.rules.specs.Numbers.{zero-f}
 use Rattle.loops.specs.Padded.{Padded}
@@ -80,13 +80,3 @@ map-append-one {A} {B} g (y ∷ xs) x = ap (λ (l : List B). g y ∷ l) (map-app
 
 pub map_more : {A B : Type 0} (g : A → B) (l : List A) (i : ℕ) (d : A) → i < length l → map g (take (i + 1) l) ≡ map g (take i l) ++ (g (get_or l i d) ∷ [])
 map_more g l i d h = ap (map g) (take_more l i d h) ∙ map-append-one g (take i l) (get_or l i d)
-
--- zeros of which the first n were written over
-pub padded-over : (n : ℕ) (xs ys : List Float) → n ≤ 16 → length ys ≡ n → xs ≡ ys → Padded n ys (xs ++ drop n zeros)
-padded-over n xs ys h l e =
-    let k : length xs ≡ n = ap length e ∙ l in
-    record {
-      front = take_at xs (drop n zeros) n k ∙ e;
-      back = drop_at xs (drop n zeros) n k ∙ drop-replicate n 16 zero-f;
-      long = length-append xs (drop n zeros) ∙ (omega (arith, k, length-drop n zeros, zeros-long));
-    }

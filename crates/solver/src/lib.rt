@@ -30,6 +30,7 @@ pub struct Solved {
 }
 
 // What the public call answers beside the lengths that it writes: how many, and the passes.
+// Kept: numbers beside the answer, in place of a `Result` that holds them: `tiling_c` hands out each of the three (`solve_into`'s contract).
 #[derive(Clone, Copy)]
 pub struct SolvedInto {
     pub answer: Answer,

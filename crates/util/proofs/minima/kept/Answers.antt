@@ -1,7 +1,7 @@
 -- `util::minima::kept` passes zeros from the end. Assumes nothing.
 use mathlib.Core.Path.{◌≡◌, sym, ap, subst, ◌∙◌}
 use mathlib.Core.Bool.{true, false}
-use Prim.Native.Nat.{ℕ, ◌≤◌, ◌<◌, ◌-◌, ◌+◌}
+use Prim.Native.Nat.{ℕ, ◌<◌, ◌-◌, ◌+◌}
 use native.Mathlib.Omega.{arith}
 use borrow.Author.Rules.{rules}
 use borrow.Author.Tests.{not-true, not-false}
@@ -10,16 +10,9 @@ use lib.Ieee.{Float, of_bits, nan, eq, ne}
 use Rattle.rules.specs.Numbers.{zero-f}
 use Rattle.rules.specs.Tree.{reals}
 use Rattle.rules.specs.Minima.{compact_constraints}
-use Rattle.lists.specs.Places.{used-length, get_d-used}
-use Rattle.util.specs.Entries.{cutting-start, cutting-more, cutting-kept, cutting-none}
+use Rattle.lists.specs.Places.{get_d-used}
+use Rattle.util.specs.Entries.{cutting-more, cutting-kept, cutting-none}
 use Rattle.util.proofs.minima.kept.Goals as goal
-
-pub loop-n-init : goal.loop-n-init
-loop-n-init c =
-    let m = c.args.minima in
-    let s : length m.at ≡ 16 = search rules in
-    let h : m.len ≤ length m.at = omega arith in
-    cutting-start (reals m) m.len (sym (used-length m.len m.at h))
 
 pub returns-then-minima-n : goal.returns-then-minima-n
 unfolding of_bits ne
