@@ -8,6 +8,7 @@ use table::row::Taken;
 use table::sections::Places;
 
 // The slots of the first `end` rows, as many as push_spec came to, into columns that show none.
+// Kept: four columns, as the C calls lend them, one by one.
 pub fn slots_into(
     b: &[u8],
     t: Places,

@@ -9,7 +9,7 @@ use Rattle.rules.specs.Table.{Table, read_table}
 use Rattle.rules.specs.Spec.{left_of, validate, built_nodes, Built, refused_spec, wide_row, built_from, validated, narrow, within, tabled, from_spec}
 use Rattle.rules.specs.declared.model.TileTree.{TileTree}
 use Rattle.rules.specs.Refusals.{Answer}
-use Rattle.rules.specs.Refusals.{Accepted, Refused}
+use Rattle.rules.specs.Refusals.{Accepted}
 use Rattle.rules.specs.declared.refusal.Refusal.{Refusal}
 use Rattle.rules.specs.declared.refusal.Refusal.TheVariants.{BadTable, ArenaFull, TooWide}
 use Rattle.columns.specs.Shown.{arena_from, Plain}

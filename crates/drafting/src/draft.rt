@@ -16,6 +16,7 @@ use rules::refusal::{Answer, Refusal};
 use table::preorder::read_table;
 use table::sections::Places;
 
+// Kept: a refused spec has a tree too, of which `Drafted`, the clause of `spec::whole::from_spec`, speaks.
 #[derive(Clone, Copy)]
 pub struct Draft {
     pub answer: Answer,

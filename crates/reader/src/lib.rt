@@ -16,6 +16,7 @@ pub struct Reader<'a> {
     pub at: usize,
 }
 
+// Kept: functions, by the names and with the arguments that docs/DECISIONS.md has, and not methods.
 // At the first byte.
 pub fn new<'a>(bytes: &'a [u8]) -> Reader<'a>
     ensures bytes { result.bytes ≡ bytes.entry }

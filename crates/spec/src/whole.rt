@@ -14,6 +14,7 @@ use rules::refusal::Answer;
 use settling::settle::repair_columns;
 
 // What a spec came to in columns, and the root of its tree.
+// Kept: a refused one's columns show a tree too, whose root `DraftedIn`, the clause of `spec_into`, speaks of.
 #[derive(Clone, Copy)]
 pub struct Rooted {
     pub answer: Answer,
