@@ -10,6 +10,7 @@ pub fn sized(slots: [Slot; 64])
 {}
 
 // A row has 16 places.
+// Kept: a lent array of rows does not tell theirs: `length (get_or ids.now root []) ≡ 16` stays open in `lone::root_row` with no call that takes the row by value.
 pub fn full(row: [u64; 16])
     ensures { length row ≡ 16 }
 {}

@@ -6,6 +6,7 @@ use sifting::Counts;
 pub mod rows;
 
 // How many children are kept so far in the three arrays that a split lends, and whether anything about them changed.
+// Kept: the arrays stand beside it, one by one: what a struct of `&mut` arrays lends is not tied to them after the call (the goal `returns` stays open).
 #[derive(Clone, Copy)]
 pub struct Tally {
     pub len: usize,

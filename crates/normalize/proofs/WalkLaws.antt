@@ -9,7 +9,7 @@ use native.Mathlib.Omega.{arith}
 use native.Mathlib.Nat.{not-suc-le-zero, le_of_suc-le-suc}
 use borrow.Author.Tests.{le-leb, lt-leb}
 use lib.ListN.{length, take, drop, get_or, set, length-set, length-map, length-take, drop_of_length-le}
-use lib.Seq.{drop-cons}
+use lib.Seq.{drop-cons, length-take-le}
 use lib.Ieee.{Float, nan}
 use Rattle.rules.specs.Numbers.{zero-f}
 use Rattle.rules.specs.Shares.{repaired_shares}
@@ -29,7 +29,7 @@ use Rattle.sifting.specs.Work.{Cols, cols, Sized, Shows}
 use Rattle.columns.specs.Columns.{node_from, axis_from}
 use Rattle.sifting.specs.Walked.{kept_as, reserve, Answers, Walked, Even, entries_of, Placed}
 use Rattle.sifting.specs.Steps.{Dropped}
-use Rattle.melting.specs.Splits.{Loaded, Mends, BadNoted, kids_in, Closed}
+use Rattle.melting.specs.Splits.{Loaded, Mends, BadNoted, Long, kids_in, Closed}
 use Rattle.normalize.specs.Opens.{Opens, is_wide}
 use Rattle.sifting.specs.declared.Counts.{Counts}
 use Rattle.sifting.specs.declared.Kept.{Kept}
@@ -146,8 +146,8 @@ module _ (hs xs : List (List ℕ)) (ss ms : List (List Float)) (cs : List Bool) 
         (slot_is C S w W id ∙ split-of (get_or h 0 0) h (get_or xs id []) (get_or ss id []) (get_or ms id []) k0 k1 k2)
         ∙ (λ z. step f w (children-same z) (sym L.shares z) (sym L.minima z) (old-same z) (mins-same z))
 
-    pub opens : Opens C D id mode row.shares rows
-    opens =
+    pub opens : Long rows → Opens C D id mode row.shares rows
+    opens g =
         record {
           sized =
               record {
@@ -164,6 +164,7 @@ module _ (hs xs : List (List ℕ)) (ss ms : List (List Float)) (cs : List Bool) 
           seen = refl;
           listing = N.most;
           even = M.even;
+          long = g;
           few = L.few-shares;
           least = subst (λ (l : List Float). All Least (entries (map tile (ids rows.children)) (reals rows.shares) l)) (sym M.minima)
               (start-least (map tile (ids rows.children)) (reals rows.shares) (reals row.minima) (length (ids row.children)));
@@ -498,7 +499,17 @@ module _ {rows : Kids} {C₀ D : Cols} {id mode : ℕ} {given : Reals} (X : Ctx 
     all_done = going_done rows X.opens.even X.long X.long_shares X.long-minima C₀ D id mode given X.sized X.inside X.open-yet X.opens C k j G
 
 pub context : {rows : Kids} {C₀ D : Cols} {id mode : ℕ} {given : Reals} → Sized C₀ → C₀.counts.acts + 19 * free C₀.claimed ≤ 1216 → id < 64 → get_or C₀.claimed id false ≡ false
-    → Opens C₀ D id mode given rows
-    → (length (ids rows.children) ≡ rows.children.len) × (length (reals rows.shares) ≡ rows.shares.len) × (length (reals rows.minima) ≡ rows.minima.len)
-    → Ctx rows C₀ D id mode given
-context S room inside open-yet O m = record { sized = S; room = room; inside = inside; open-yet = open-yet; opens = O; long = m.0; long_shares = m.1; long-minima = m.2 }
+    → Opens C₀ D id mode given rows → Ctx rows C₀ D id mode given
+context {rows} S room inside open-yet O =
+    let E = O.even in
+    let g = O.long in
+    record {
+      sized = S;
+      room = room;
+      inside = inside;
+      open-yet = open-yet;
+      opens = O;
+      long = length-take-le rows.children.len rows.children.at (omega (arith, E.few, g.children));
+      long_shares = length-take-le rows.shares.len rows.shares.at (omega (arith, E.few, E.shares, g.shares));
+      long-minima = length-take-le rows.minima.len rows.minima.at (omega (arith, E.few, E.minima, g.minima));
+    }

@@ -8,6 +8,7 @@ use Rattle.forest.specs.Codec.{Least}
 use Rattle.sifting.specs.Work.{Cols, cols, Sized, Shows}
 use Rattle.columns.specs.Columns.{axis_from}
 use Rattle.sifting.specs.Walked.{Even, entries_of}
+use Rattle.melting.specs.Splits.{Long}
 use Rattle.sifting.specs.declared.Counts.{Counts}
 use Rattle.sifting.specs.declared.Kept.{Kept}
 use Rattle.sifting.specs.declared.Kept.TheVariants.{At, Gone, Wide}
@@ -22,6 +23,7 @@ pub record Opens (C D : Cols) (id mode : ℕ) (given : Reals) (rows : Kids) : Ty
   pub seen : D.counts.seen ≡ C.counts.seen
   pub listing : D.counts.acts ≤ C.counts.acts + 2
   pub even : Even rows
+  pub long : Long rows
   pub few : given.len ≤ 16
   pub least : All Least (entries_of rows)
   pub right : (w : Work) → Shows C w → (u : Work) × (u.state ≡ (claim (tile id) w).state) × Shows D u

@@ -1,16 +1,15 @@
 // normalize_node and normalize_split: a tile's repair calls a split's repair, which calls back. Slots that are not claimed grow fewer.
-ghost use Rattle.std.specs.Prelude.{[], ◌≡◌, Bool, ◌+◌, ◌*◌, ◌≤◌, ◌<◌, length, get_or};
+ghost use Rattle.std.specs.Prelude.{[], ◌≡◌, Bool, ◌+◌, ◌*◌, ◌≤◌, ◌<◌, get_or};
 ghost use Rattle.forest.specs.Lists.{free};
-ghost use Rattle.rules.specs.Tree as Tree;
 ghost use Rattle.sifting.specs.Work.{cols, Sized};
 ghost use Rattle.columns.specs.Columns.{Slim};
-ghost use Rattle.sifting.specs.Walked.{Walked, Even};
+ghost use Rattle.sifting.specs.Walked.{Walked};
 ghost use Rattle.normalize.specs.Opens.{OpensIn, is_wide};
 
 use crate::Opened;
 use keeping::splits;
 use melting::{Tally, rows};
-use sifting::{Counts, Kept, Kids, Walk, leaves};
+use sifting::{Counts, Kept, Walk, leaves};
 
 // Whether a step answered that a list is too wide.
 fn is_wide(k: Kept) -> bool
@@ -35,7 +34,8 @@ fn open_split(
     requires unclaimed { get_or claimed.old id Bool.false ≡ Bool.false }
     requires listing { c.acts + 19 * free claimed.old ≤ 1216 }
     requires split { 2 < get_or (get_or heads.now id []) 0 0 }
-    ensures { OpensIn heads.now ids.now shares.now minima.now claimed.old acts.old c id claimed.new acts.new result }
+    ensures opens { OpensIn heads.now ids.now shares.now minima.now claimed.old acts.old c id claimed.new acts.new result }
+    ensures few { result.rows.children.len ≤ 16 }
 {
     let i = id as usize;
     claimed[i] = true;
@@ -49,12 +49,6 @@ fn open_split(
         counts: Counts { acts: n, ..c },
     }
 }
-
-// The lists of a split are as long as they say: arrays by value have 16 places.
-fn measured(k: Kids)
-    requires { Even k }
-    ensures { (length (Tree.ids k.children) ≡ k.children.len) × (length (Tree.reals k.shares) ≡ k.shares.len) × (length (Tree.reals k.minima) ≡ k.minima.len) }
-{}
 
 // normalize_node
 #[cycle(normalize_node_normalize_split)]
@@ -110,7 +104,6 @@ fn normalize_split(
 {
     let o = open_split(heads, ids, shares, minima, claimed, acts, c, id);
     let rows = o.rows;
-    measured(rows);
     let children = rows.children;
     let olds = rows.shares;
     let least = rows.minima;

@@ -14,7 +14,6 @@ fn is_blank(h: [u64; 8]) -> bool
 }
 
 // The root's row of ids has 16 places, where there is one.
-// Kept: a lent array of rows tells its own length and not theirs: with no row handed on by value `length (get_or ids.now root []) ≡ 16` stays open.
 pub fn root_row(ids: &[[u64; 16]; 64], root: u64)
     ensures { root < 64 → length (get_or ids.now root []) ≡ 16 }
 {

@@ -14,6 +14,7 @@ pub struct Counts {
 }
 
 // What is left of a tile: the tile that stands for it, nothing, or a list of over 16, which ends the walk.
+// Kept: `Walked` says as much of the columns and the counts of a walk that ended so as of any other; an Err would come without the counts that it speaks of.
 #[derive(Clone, Copy)]
 pub enum Kept {
     At(u64),

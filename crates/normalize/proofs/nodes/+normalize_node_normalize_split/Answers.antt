@@ -84,29 +84,23 @@ normalize_split-open_split-o-requires t c =
     let p = c.requires in
     record { inside = p.inside; slim = p.sized.slim c.args.id; unclaimed = p.unclaimed; listing = p.listing; split = p.split }
 
-pub normalize_split-measured-requires : goal.normalize_split-measured-requires
-normalize_split-measured-requires t c =
-    (c.open_split-o.ensures c.args.seen.now c.requires.sized).even
-
 pub normalize_split-loop-j-init : goal.normalize_split-loop-j-init
-normalize_split-loop-j-init t c = (λ C₀ X. start X _ _ _, record { children = refl; shares = refl; minima = refl })
+normalize_split-loop-j-init t c = λ C₀ X. start X _ _ _
 
 pub normalize_split-normalize_node-w-requires : goal.normalize_split-normalize_node-w-requires
 normalize_split-normalize_node-w-requires t c =
     let x = c.args in
     let p = c.requires in
-    let C₀ = cols x.heads.now x.ids.now x.shares.now x.minima.now x.claimed.now x.seen.now x.acts.now x.c in
-    let X = context p.sized p.listing p.inside p.unclaimed (c.open_split-o.ensures x.seen.now p.sized) c.measured.ensures in
-    let G = c.loop-j.invariant.0 C₀ X in
+    let X = context p.sized p.listing p.inside p.unclaimed (c.open_split-o.ensures.opens x.seen.now p.sized) in
+    let G = c.loop-j.invariant _ X in
     (omega (arith, falls-by X G), (G.sized, omega (arith, room_for X G c.loop-j-test.true)))
 
 pub normalize_split-returns-then-is_wide : goal.normalize_split-returns-then-is_wide
 normalize_split-returns-then-is_wide t c =
     let x = c.args in
     let p = c.requires in
-    let C₀ = cols x.heads.now x.ids.now x.shares.now x.minima.now x.claimed.now x.seen.now x.acts.now x.c in
-    let X = context p.sized p.listing p.inside p.unclaimed (c.open_split-o.ensures x.seen.now p.sized) c.measured.ensures in
-    let G = c.loop-j.invariant.0 C₀ X in
+    let X = context p.sized p.listing p.inside p.unclaimed (c.open_split-o.ensures.opens x.seen.now p.sized) in
+    let G = c.loop-j.invariant _ X in
     let r = c.normalize_node-w in
     let E₁ = cols r.new.heads r.new.ids r.new.shares r.new.minima r.new.claimed r.new.seen r.new.acts r.result.counts in
     too_wide X G c.loop-j-test.true (get_or c.open_split-o.result.rows.children.at c.loop-j.j 0) (child-read X c.loop-j.j c.loop-j-test.true) E₁ r.result.kept r.ensures (sym c.is_wide.ensures ∙ c.if-is_wide.true)
@@ -115,17 +109,15 @@ pub normalize_split-place-requires-clause-tally : goal.normalize_split-place-req
 normalize_split-place-requires-clause-tally t c =
     let x = c.args in
     let p = c.requires in
-    let C₀ = cols x.heads.now x.ids.now x.shares.now x.minima.now x.claimed.now x.seen.now x.acts.now x.c in
-    let X = context p.sized p.listing p.inside p.unclaimed (c.open_split-o.ensures x.seen.now p.sized) c.measured.ensures in
-    (c.loop-j.invariant.0 C₀ X).even.few
+    let X = context p.sized p.listing p.inside p.unclaimed (c.open_split-o.ensures.opens x.seen.now p.sized) in
+    (c.loop-j.invariant _ X).even.few
 
 pub normalize_split-returns-in_default : goal.normalize_split-returns-in_default
 normalize_split-returns-in_default t c =
     let x = c.args in
     let p = c.requires in
-    let C₀ = cols x.heads.now x.ids.now x.shares.now x.minima.now x.claimed.now x.seen.now x.acts.now x.c in
-    let X = context p.sized p.listing p.inside p.unclaimed (c.open_split-o.ensures x.seen.now p.sized) c.measured.ensures in
-    let G = c.loop-j.invariant.0 C₀ X in
+    let X = context p.sized p.listing p.inside p.unclaimed (c.open_split-o.ensures.opens x.seen.now p.sized) in
+    let G = c.loop-j.invariant _ X in
     let r = c.normalize_node-w in
     let lt = c.loop-j-test.true in
     let narrow = sym c.is_wide.ensures ∙ c.if-is_wide.false in
@@ -141,31 +133,28 @@ normalize_split-returns-in_default t c =
     (room-placed X G lt (get_or o.rows.children.at c.loop-j.j 0) (child-read X c.loop-j.j lt) E₁ r.result.kept r.ensures)) refl
 
 pub normalize_split-loop-j-preserved : goal.normalize_split-loop-j-preserved
-normalize_split-loop-j-preserved t c = (
-  λ C₀ X.
-      let G = c.loop-j.invariant.0 C₀ X in
-      let r = c.normalize_node-w in
-      let lt = c.loop-j-test.true in
-      let narrow = sym c.is_wide.ensures ∙ c.if-is_wide.false in
-      let E₁ = cols r.new.heads r.new.ids r.new.shares r.new.minima r.new.claimed r.new.seen r.new.acts r.result.counts in
-      let q = c.place.new in
-      let u = c.in-Some.p in
-      let o = c.open_split-o.result in
-      one_more X G lt (get_or o.rows.children.at c.loop-j.j 0) (child-read X c.loop-j.j lt) E₁ r.result.kept r.ensures narrow (cols q.heads r.new.ids r.new.shares r.new.minima r.new.claimed r.new.seen q.acts u.counts) (kids_in q.cs q.ss q.ms u.tally.len u.tally.moved) false
-      (c.in-Some.ensures.1 r.new.claimed r.new.seen
-      (entry (tile (get_or (ids o.rows.children) c.loop-j.j 0)) (get_or (reals o.rows.shares) c.loop-j.j zero-f) (get_or (reals o.rows.minima) c.loop-j.j zero-f))
-      (share-read X c.loop-j.j lt) (minimum-read X c.loop-j.j lt) r.ensures.sized
-      (room-placed X G lt (get_or o.rows.children.at c.loop-j.j 0) (child-read X c.loop-j.j lt) E₁ r.result.kept r.ensures)) refl,
-  c.in-Some.ensures.0.long,
-)
+normalize_split-loop-j-preserved t c =
+    λ C₀ X.
+    let G = c.loop-j.invariant _ X in
+    let r = c.normalize_node-w in
+    let lt = c.loop-j-test.true in
+    let narrow = sym c.is_wide.ensures ∙ c.if-is_wide.false in
+    let E₁ = cols r.new.heads r.new.ids r.new.shares r.new.minima r.new.claimed r.new.seen r.new.acts r.result.counts in
+    let q = c.place.new in
+    let u = c.in-Some.p in
+    let o = c.open_split-o.result in
+    one_more X G lt (get_or o.rows.children.at c.loop-j.j 0) (child-read X c.loop-j.j lt) E₁ r.result.kept r.ensures narrow (cols q.heads r.new.ids r.new.shares r.new.minima r.new.claimed r.new.seen q.acts u.counts) (kids_in q.cs q.ss q.ms u.tally.len u.tally.moved) false
+    (c.in-Some.ensures.1 r.new.claimed r.new.seen
+    (entry (tile (get_or (ids o.rows.children) c.loop-j.j 0)) (get_or (reals o.rows.shares) c.loop-j.j zero-f) (get_or (reals o.rows.minima) c.loop-j.j zero-f))
+    (share-read X c.loop-j.j lt) (minimum-read X c.loop-j.j lt) r.ensures.sized
+    (room-placed X G lt (get_or o.rows.children.at c.loop-j.j 0) (child-read X c.loop-j.j lt) E₁ r.result.kept r.ensures)) refl
 
 pub normalize_split-split_done-requires : goal.normalize_split-split_done-requires
 normalize_split-split_done-requires t c =
     let x = c.args in
     let p = c.requires in
-    let C₀ = cols x.heads.now x.ids.now x.shares.now x.minima.now x.claimed.now x.seen.now x.acts.now x.c in
-    let X = context p.sized p.listing p.inside p.unclaimed (c.open_split-o.ensures x.seen.now p.sized) c.measured.ensures in
-    let G = c.loop-j.invariant.0 C₀ X in
+    let X = context p.sized p.listing p.inside p.unclaimed (c.open_split-o.ensures.opens x.seen.now p.sized) in
+    let G = c.loop-j.invariant _ X in
     let Z = G.sized in
     record { inside = p.inside; tally = G.even.few; given = X.opens.few; listing = omega (arith, Z.listing) }
 
@@ -173,9 +162,8 @@ pub normalize_split-returns : goal.normalize_split-returns
 normalize_split-returns t c =
     let x = c.args in
     let p = c.requires in
-    let C₀ = cols x.heads.now x.ids.now x.shares.now x.minima.now x.claimed.now x.seen.now x.acts.now x.c in
-    let X = context p.sized p.listing p.inside p.unclaimed (c.open_split-o.ensures x.seen.now p.sized) c.measured.ensures in
-    let G = c.loop-j.invariant.0 C₀ X in
+    let X = context p.sized p.listing p.inside p.unclaimed (c.open_split-o.ensures.opens x.seen.now p.sized) in
+    let G = c.loop-j.invariant _ X in
     let r = c.split_done in
     let l = c.loop-j in
     all_done X G c.loop-j-test.false
