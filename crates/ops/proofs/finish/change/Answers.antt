@@ -18,7 +18,7 @@ returns-then-revision-eq18446744073709551615 c =
 pub settle-done-requires : goal.settle-done-requires
 settle-done-requires c =
     let x = c.args in
-    (even-plain x.heads.now x.ids.now x.shares.now x.minima.now c.requires, c.requires.whole)
+    record { plain = even-plain x.heads.now x.ids.now x.shares.now x.minima.now c.requires; whole = c.requires.whole }
 
 pub returns-in-Ok : goal.returns-in-Ok
 returns-in-Ok c =
