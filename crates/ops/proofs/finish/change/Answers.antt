@@ -20,7 +20,7 @@ returns-then-revision-eq18446744073709551615 c =
 pub settle-done-requires : goal.settle-done-requires
 settle-done-requires c =
     let x = c.args in
-    (even-plain x.heads.now x.ids.now x.shares.now x.minima.now c.requires, c.requires.whole)
+    record { plain = even-plain x.heads.now x.ids.now x.shares.now x.minima.now c.requires; whole = c.requires.whole }
 
 pub returns : goal.returns
 returns c =
