@@ -115,7 +115,7 @@ fn same_case(b: &[u8]) -> bool {
     let told = wire::threes::three(b, asked.at);
     let r = frame::whole::layout(t, i);
     let answer = r.answer;
-    if !same_told(told, answers::of_answer(answer)) {
+    if !same_told(told, answers::Told::from(answer)) {
         return false;
     }
     if !same_stream(t, i, r) {

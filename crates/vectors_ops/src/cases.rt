@@ -137,7 +137,7 @@ pub fn gives(t: TileTree, op: TileOp, wanted: TileTree) -> bool
 {
     let done = ops::whole::apply(t, op);
     let answer = done.answer;
-    let told = answers::of_answer(answer);
+    let told = answers::Told::from(answer);
     if told.number != 0 {
         return false;
     }
@@ -151,7 +151,7 @@ pub fn keeps(t: TileTree, op: TileOp, number: u64) -> bool
 {
     let done = ops::whole::apply(t, op);
     let answer = done.answer;
-    let told = answers::of_answer(answer);
+    let told = answers::Told::from(answer);
     if told.number != number {
         return false;
     }

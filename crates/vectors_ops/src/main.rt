@@ -47,7 +47,7 @@ fn step(b: &[u8], r: Run) -> Run {
     let done = ops::whole::apply(before, op);
     let told = wire::threes::three(b, read.at);
     let answer = done.answer;
-    let same = same_told(told, answers::of_answer(answer));
+    let same = same_told(told, answers::Told::from(answer));
     let after = wire::tree::tree_after(b, told.at, before);
     let wanted = after.tree;
     let tree = done.tree;

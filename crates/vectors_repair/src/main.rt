@@ -113,7 +113,7 @@ fn same_actions(b: &[u8], at: usize, r: Report) -> bool {
 fn same_answer(b: &[u8], at: usize, before: TileTree, r: Repairing) -> bool {
     let told = wire::threes::three(b, at);
     let answer = r.answer;
-    if !same_told(told, answers::of_answer(answer)) {
+    if !same_told(told, answers::Told::from(answer)) {
         return false;
     }
     let after = wire::tree::tree_after(b, told.at, before);

@@ -67,7 +67,7 @@ fn same_solved(b: &[u8], at: usize, lengths: Reals, passes: u64) -> bool {
 // Whether the answer is the one that stands in the body.
 fn same_answer(b: &[u8], at: usize, s: Solution) -> bool {
     let answer = s.answer;
-    if !same_told(b, at, answers::of_answer(answer)) {
+    if !same_told(b, at, answers::Told::from(answer)) {
         return false;
     }
     let lengths = s.lengths;

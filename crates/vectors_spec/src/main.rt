@@ -23,7 +23,7 @@ fn same_told(n: Numbers, told: answers::Told) -> bool {
 fn same_answer(b: &[u8], at: usize, d: Draft) -> bool {
     let told = wire::threes::three(b, at);
     let answer = d.answer;
-    if !same_told(told, answers::of_answer(answer)) {
+    if !same_told(told, answers::Told::from(answer)) {
         return false;
     }
     let wanted = wire::tree::tree(b, told.at);

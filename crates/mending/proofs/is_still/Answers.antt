@@ -11,9 +11,9 @@ returns-then-heads_over c =
 
 pub calm_columns-requires : goal.calm_columns-requires
 calm_columns-requires c =
-    (c.requires.0, c.requires.1, c.requires.2, c.requires.3, slim-heads c.args.heads.now (sym c.heads_over.ensures ∙ c.if-heads_over.false))
+    (c.told-heads, c.told-ids, c.told-shares, c.told-minima, slim-heads c.args.heads.now (sym c.heads_over.ensures ∙ c.if-heads_over.false))
 
 pub returns : goal.returns
 returns c =
     let x = c.args in
-    λ v. calm-so x.root v x.heads.now x.ids.now x.shares.now x.minima.now c.requires (sym c.heads_over.ensures ∙ c.if-heads_over.false) c.calm_columns.result c.calm_columns.ensures
+    λ v. calm-so x.root v x.heads.now x.ids.now x.shares.now x.minima.now (c.told-heads, c.told-ids, c.told-shares, c.told-minima) (sym c.heads_over.ensures ∙ c.if-heads_over.false) c.calm_columns.result c.calm_columns.ensures

@@ -10,4 +10,4 @@ returns-then-told-number c = λ e. never (sym e)
 
 pub returns : goal.returns
 returns c =
-    λ e. ap (λ (x : Applied). (answer_of x.answer).number) (sym c.apply-done.ensures.0) ∙ ap (λ (x : Told). x.number) (sym c.of_answer-told.ensures) ∙ c.if-told-number.false
+    λ e. ap (λ (x : Applied). (answer_of x.answer).number) (sym c.apply-done.ensures.0) ∙ ap (λ (x : Told). x.number) (sym c.from-told.ensures) ∙ c.if-told-number.false
