@@ -1,12 +1,9 @@
--- `vectors_ops::cases::keeps`: the number that the call answered is the rule's. Assumes nothing.
+-- `vectors_ops::cases::comes_to`: the number that the call answered is the rule's. Assumes nothing.
 use mathlib.Core.Path.{sym, ap, ◌∙◌}
 use Rattle.rules.specs.Operations.{Applied}
 use Rattle.rules.specs.Refusals.{Told, answer_of}
 use Rattle.forest.specs.Lists.{never}
-use Rattle.vectors_ops.proofs.cases.keeps.Goals as goal
-
-pub returns-then-told-number : goal.returns-then-told-number
-returns-then-told-number c = λ e. never (sym e)
+use Rattle.vectors_ops.proofs.cases.comes_to.Goals as goal
 
 pub returns : goal.returns
 returns c =
