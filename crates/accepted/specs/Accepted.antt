@@ -12,8 +12,8 @@ use Rattle.rules.specs.Table.{Table, read_table}
 use Rattle.rules.specs.Spec.{left_of, validate, built_nodes, Built, refused_spec, wide_row, built_by, built_as, validated, narrow, within, tabled, from_spec}
 use Rattle.rules.specs.Repair.{Normal, normalize}
 use Rattle.rules.specs.declared.model.TileTree.{TileTree}
-use Rattle.rules.specs.declared.refusal.Answer.{Answer}
-use Rattle.rules.specs.declared.refusal.Answer.TheVariants.{Accepted, Refused}
+use Rattle.rules.specs.Refusals.{Answer}
+use Rattle.rules.specs.Refusals.{Accepted, Refused}
 use Rattle.rules.specs.declared.refusal.Refusal.{Refusal}
 use Rattle.rules.specs.declared.refusal.Refusal.TheVariants.{BadTable, ArenaFull, TooWide}
 use Rattle.forest.specs.Loose.{Loose, shown, Held}

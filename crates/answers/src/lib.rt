@@ -75,8 +75,8 @@ impl From<Answer> for Told {
 
     fn from(a: Answer) -> Told {
         match a {
-            Answer::Accepted => Told::plain(0),
-            Answer::Refused(e) => Told::from(e),
+            Ok(()) => Told::plain(0),
+            Err(e) => Told::from(e),
         }
     }
 }

@@ -62,9 +62,9 @@ fn children_of(kids: &[u64; 1024], i: usize, n: usize) -> Tiles
 fn pane_slot(x: u64) -> Slot
     ensures { SlotIs result (pane x) }
 {
-    let panes = lists::ids::empty();
-    let children = tile_lists::tiles::empty();
-    let reals = real_lists::reals::empty();
+    let panes = lists::empty();
+    let children = lists::empty();
+    let reals = lists::empty();
     Slot {
         kind: Kind::Pane(x),
         active: 0,
@@ -88,8 +88,8 @@ pub fn tabs_slot(
     ensures { SlotIs result (tabs placement active (take n (drop p (panes_at b.now t)))) }
 {
     let panes = panes_of(b, t, p, n);
-    let children = tile_lists::tiles::empty();
-    let reals = real_lists::reals::empty();
+    let children = lists::empty();
+    let reals = lists::empty();
     Slot {
         kind: Kind::Tabs(placement),
         active,
@@ -104,7 +104,7 @@ fn split_from(axis: Axis, children: Tiles, shares: Reals, minima: Reals) -> Slot
     requires { (children.len ≤ 16) × (shares.len ≤ 16) × (minima.len ≤ 16) }
     ensures { SlotIs result (split axis (take children.len children.at) (take shares.len shares.at) (take minima.len minima.at)) }
 {
-    let panes = lists::ids::empty();
+    let panes = lists::empty();
     Slot {
         kind: Kind::Split(axis),
         active: 0,

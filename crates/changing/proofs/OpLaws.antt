@@ -19,7 +19,7 @@ use Rattle.rules.specs.Operations.{Step, refuse, refused, unchanged, change_only
 use Rattle.rules.specs.declared.model.TileId.{TileId}
 use Rattle.rules.specs.declared.model.Axis.{Axis}
 use Rattle.rules.specs.declared.model.Placement.{Placement}
-use Rattle.rules.specs.declared.operation.TabIndex.{TabIndex}
+use Rattle.rules.specs.Operations.{TabIndex}
 use Rattle.rules.specs.declared.operation.DockTarget.{DockTarget}
 use Rattle.rules.specs.declared.refusal.Refusal.{Refusal}
 use Rattle.rules.specs.declared.refusal.Refusal.TheVariants.{TooWide, InvalidOperation, InvalidPaneId, DuplicatePane}

@@ -13,7 +13,7 @@ use docking::{Stepped, near};
 use nodes::{Beside, Checked, PaneLocation, Spares, find, slots, take, targets};
 use noting::sweep;
 use rules::model::{Axis, Placement, TileId};
-use rules::operation::{DockTarget, TabIndex};
+use rules::operation::DockTarget;
 use rules::refusal::Refusal;
 use tabbing::groups;
 use util::shares;
@@ -165,7 +165,7 @@ fn tab_into(
     room: Spares,
     pane: u64,
     group: TileId,
-    index: TabIndex,
+    index: Option<usize>,
     heads: &mut [[u64; 8]; 64],
     ids: &mut [[u64; 16]; 64],
     shares: &mut [[f64; 16]; 64],

@@ -8,7 +8,6 @@ ghost use Rattle.nodes.specs.Parts.{IsGroup};
 ghost use Rattle.docking.specs.Steps.{Does, reorder_as};
 
 use docking::Stepped;
-use lists::{Place, ids};
 use nodes::slots;
 use noting::sweep;
 use rules::model::{Kind, Slot, TileId};
@@ -58,12 +57,12 @@ fn reorder_in(
     ensures { Does root (λ (a : Arena). Rule.reorder_in (view_slot s) a group pane index) result heads.old ids.old shares.old minima.old heads.new ids.new shares.new minima.new }
 {
     let panes = s.panes;
-    let place = ids::position(panes, pane);
+    let place = lists::position(panes, pane);
     match place {
-        Place::At(from) => reorder_from(
+        Some(from) => reorder_from(
             root, group, s, pane, from, index, heads, ids, shares, minima,
         ),
-        Place::Nothing => Stepped::Refused(Refusal::InvalidPaneId),
+        None => Stepped::Refused(Refusal::InvalidPaneId),
     }
 }
 

@@ -12,7 +12,6 @@ ghost use Rattle.table.specs.Rows.{panes_at, reals_at, table_of, Used};
 ghost use Rattle.checks.specs.Checks.{checked_as, left_at, Room, Loaded};
 
 use crate::entry::{known_row, pane_at, real_at};
-use lists::Place;
 use rules::refusal::Refusal;
 use table::row::{TableRow, minima_used, panes_used, shares_used};
 use table::sections::Places;
@@ -87,7 +86,7 @@ fn check_tabs(panes: &[u64; 1024], p: usize, n: usize, active: usize) -> Checked
 }
 
 // `shares.iter().position(|share| !share.is_finite() || *share <= 0.0)`, of n of the shares after the first from.
-fn bad_share(b: &[u8], start: usize, count: usize, from: usize, n: usize) -> Place
+fn bad_share(b: &[u8], start: usize, count: usize, from: usize, n: usize) -> Option<usize>
     requires { (Held b.now start count) × (from + n ≤ count) }
     ensures { place_of result ≡ position (λ x. not (share_ok x)) (take n (drop from (reals_at b.now start count))) }
 {
@@ -95,15 +94,15 @@ fn bad_share(b: &[u8], start: usize, count: usize, from: usize, n: usize) -> Pla
     while i < n {
         let x = real_at(b, start, count, from + i);
         if !number::share_ok(x) {
-            return Place::At(i);
+            return Some(i);
         }
         i += 1;
     }
-    Place::Nothing
+    None
 }
 
 // `min_major.iter().position(|minimum| !minimum.is_finite() || *minimum < 0.0)`, likewise.
-fn bad_minimum(b: &[u8], start: usize, count: usize, from: usize, n: usize) -> Place
+fn bad_minimum(b: &[u8], start: usize, count: usize, from: usize, n: usize) -> Option<usize>
     requires { (Held b.now start count) × (from + n ≤ count) }
     ensures { place_of result ≡ position (λ x. not (minimum_ok x)) (take n (drop from (reals_at b.now start count))) }
 {
@@ -111,11 +110,11 @@ fn bad_minimum(b: &[u8], start: usize, count: usize, from: usize, n: usize) -> P
     while i < n {
         let x = real_at(b, start, count, from + i);
         if !number::minimum_ok(x) {
-            return Place::At(i);
+            return Some(i);
         }
         i += 1;
     }
-    Place::Nothing
+    None
 }
 
 // The arm of TileSpec::Split, up to its children: n of them, with ns shares after the first s and nm minima after the first m.
@@ -132,7 +131,7 @@ fn check_split(b: &[u8], t: Places, n: usize, s: usize, ns: usize, m: usize, nm:
             shares: ns,
         });
     }
-    if let Place::At(index) = bad_share(b, t.shares, t.share_count, s, ns) {
+    if let Some(index) = bad_share(b, t.shares, t.share_count, s, ns) {
         return Checked::Bad(Refusal::InvalidShare { index });
     }
     if n < nm {
@@ -141,7 +140,7 @@ fn check_split(b: &[u8], t: Places, n: usize, s: usize, ns: usize, m: usize, nm:
             constraints: nm,
         });
     }
-    if let Place::At(index) = bad_minimum(b, t.minima, t.minimum_count, m, nm) {
+    if let Some(index) = bad_minimum(b, t.minima, t.minimum_count, m, nm) {
         return Checked::Bad(Refusal::InvalidSplitConstraint { index });
     }
     Checked::Good

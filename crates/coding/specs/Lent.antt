@@ -6,11 +6,11 @@ use Rattle.rules.specs.Lists.{any_of, all_of}
 use Rattle.rules.specs.Tabs.{rect}
 use Rattle.rules.specs.Tree.{Arena, tile}
 use Rattle.rules.specs.Refusals.{Told}
-use Rattle.rules.specs.declared.model.Reals.{Reals}
+use Rattle.rules.specs.Tree.{Reals}
 use Rattle.rules.specs.declared.model.Placement.{Placement}
 use Rattle.rules.specs.declared.model.Placement.TheVariants.{Before, After}
-use Rattle.rules.specs.declared.operation.TabIndex.{TabIndex}
-use Rattle.rules.specs.declared.operation.TabIndex.TheVariants.{End, At}
+use Rattle.rules.specs.Operations.{TabIndex}
+use Rattle.std.specs.Prelude.{Some, None}
 use Rattle.rules.specs.declared.operation.DockTarget.{DockTarget}
 use Rattle.rules.specs.declared.operation.DockTarget.TheVariants as Targets
 use Rattle.rules.specs.declared.operation.TileOp.{TileOp}
@@ -88,8 +88,8 @@ placement_from zero = Before
 placement_from (suc n) = After
 
 abbrev pub index_from : ℕ → ℕ → TabIndex
-index_from zero i = End
-index_from (suc n) i = At i
+index_from zero i = None
+index_from (suc n) i = Some i
 
 abbrev pub target_by : ℕ → List ℕ → Float → DockTarget
 target_by zero w f = Targets.Root

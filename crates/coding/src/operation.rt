@@ -5,7 +5,7 @@ ghost use Rattle.coding.specs.Lent.{placement_from, index_from, target_by, op_fr
 use columns::modes;
 use rules::frame::{LayoutInput, Rect, Size};
 use rules::model::{Placement, TileId};
-use rules::operation::{DockTarget, TabIndex, TileOp};
+use rules::operation::{DockTarget, TileOp};
 
 fn placement_of(n: u64) -> Placement
     ensures { result ≡ placement_from n }
@@ -16,12 +16,12 @@ fn placement_of(n: u64) -> Placement
     }
 }
 
-fn index_of(given: u64, index: u64) -> TabIndex
+fn index_of(given: u64, index: u64) -> Option<usize>
     ensures { result ≡ index_from given index }
 {
     match given {
-        0 => TabIndex::End,
-        _ => TabIndex::At(index as usize),
+        0 => None,
+        _ => Some(index as usize),
     }
 }
 

@@ -5,9 +5,9 @@ use Rattle.std.specs.Float.{binary64}
 use Rattle.std.specs.Float.Ieee.{to_bits, eq}
 use Rattle.rules.specs.Lists.{same_list}
 use Rattle.rules.specs.Tree.{ids, tiles, reals, same_tile, same_axis, same_placement}
-use Rattle.rules.specs.declared.model.Ids.{Ids}
-use Rattle.rules.specs.declared.model.Tiles.{Tiles}
-use Rattle.rules.specs.declared.model.Reals.{Reals}
+use Rattle.rules.specs.Tree.{Ids}
+use Rattle.rules.specs.Tree.{Tiles}
+use Rattle.rules.specs.Tree.{Reals}
 use Rattle.rules.specs.declared.model.Axis.{Axis}
 use Rattle.rules.specs.declared.model.TabBarPlacement.{TabBarPlacement}
 use Rattle.rules.specs.declared.model.Kind.{Kind}

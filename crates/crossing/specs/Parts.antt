@@ -4,7 +4,7 @@ use Rattle.rules.specs.Lists.{any_of}
 use Rattle.rules.specs.Tree.{Arena}
 use Rattle.rules.specs.Refusals.{answer_of}
 use Rattle.rules.specs.declared.model.RepairAction.{RepairAction}
-use Rattle.rules.specs.declared.refusal.Answer.{Answer}
+use Rattle.rules.specs.Refusals.{Answer}
 use Rattle.columns.specs.Columns.{code_of}
 use Rattle.columns.specs.Pack.{over_head}
 use Rattle.coding.specs.Lent.{Lot, lent, tidied, lot_ok, out_of}

@@ -110,8 +110,8 @@ fn input(width: f64, height: f64, handle: f64, bar: f64) -> LayoutInput {
 
 fn is_accepted(a: Answer) -> bool {
     match a {
-        Answer::Accepted => true,
-        Answer::Refused(_) => false,
+        Ok(()) => true,
+        Err(_) => false,
     }
 }
 

@@ -14,8 +14,8 @@ use Rattle.rules.specs.Tree.{Node, Arena, arena, tile, wide_node, empty_slots}
 use Rattle.rules.specs.Repair.{Normal, normalize, Repaired, repaired_by, repaired_as}
 use Rattle.rules.specs.Insert.{Draft, draft}
 use Rattle.rules.specs.Operations.{Change, change, Step, refused, accepted, Applied, normal_by, normal_as, last-revision, revised_by, inserted_by, room_by, finish}
-use Rattle.rules.specs.declared.refusal.Answer.{Answer}
-use Rattle.rules.specs.declared.refusal.Answer.TheVariants.{Accepted, Refused}
+use Rattle.rules.specs.Refusals.{Answer}
+use Rattle.rules.specs.Refusals.{Accepted, Refused}
 use Rattle.rules.specs.declared.refusal.Refusal.{Refusal}
 use Rattle.rules.specs.declared.refusal.Refusal.TheVariants.{ArenaFull, TooWide, RevisionExhausted}
 use Rattle.forest.specs.Lists.{All, all_drop}

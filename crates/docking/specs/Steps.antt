@@ -7,7 +7,7 @@ use Rattle.rules.specs.Insert as Insert
 use Rattle.rules.specs.Insert.{draft}
 use Rattle.rules.specs.Operations.{Change, Step, refuse, unchanged, changed, reorder_from, Applied, refused, finish}
 use Rattle.rules.specs.declared.model.TileId.{TileId}
-use Rattle.rules.specs.declared.refusal.Answer.TheVariants as Answers
+use Rattle.rules.specs.Refusals as Answers
 use Rattle.rules.specs.declared.refusal.Refusal.TheVariants.{InvalidTileId}
 use Rattle.nodes.specs.declared.Beside.{Beside}
 use Rattle.nodes.specs.declared.Spares.{Spares}

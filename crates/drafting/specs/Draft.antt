@@ -1,4 +1,5 @@
 -- A spec's answer and tree before repair: the rules' from_spec with everything but `normalize`. Definitions, and how the rules go on from there.
+use Rattle.std.specs.Prelude.{Ok, Err}
 use Rattle.std.specs.Prelude.{◌≡◌, refl, Bool, true, false, List, [], ℕ, ◌≤◌, ltb, Float, length}
 use Rattle.std.proofs.Common.{sym, ◌∙◌}
 use Rattle.std.proofs.Math.Option.{Option, none, some}
@@ -7,8 +8,8 @@ use Rattle.rules.specs.Tree.{view, arena, tile}
 use Rattle.rules.specs.Table.{Table, read_table}
 use Rattle.rules.specs.Spec.{left_of, validate, built_nodes, Built, refused_spec, wide_row, built_from, validated, narrow, within, tabled, from_spec}
 use Rattle.rules.specs.declared.model.TileTree.{TileTree}
-use Rattle.rules.specs.declared.refusal.Answer.{Answer}
-use Rattle.rules.specs.declared.refusal.Answer.TheVariants.{Accepted, Refused}
+use Rattle.rules.specs.Refusals.{Answer}
+use Rattle.rules.specs.Refusals.{Accepted, Refused}
 use Rattle.rules.specs.declared.refusal.Refusal.{Refusal}
 use Rattle.rules.specs.declared.refusal.Refusal.TheVariants.{BadTable, ArenaFull, TooWide}
 use Rattle.columns.specs.Shown.{arena_from, Plain}
@@ -48,8 +49,8 @@ pub record DraftedIn (answer : Answer) (root : ℕ) (hs xs : List (List ℕ)) (s
 
 -- a refused spec's tree is the lone empty root, whatever was read
 abbrev pub refused_as : Answer → Built → Built
-refused_as Accepted b = b
-refused_as (Refused e) b = refused_spec e
+refused_as (Ok _) b = b
+refused_as (Err e) b = refused_spec e
 
 -- the answer, and where it is accepted the tree. A refused one says nothing of the columns
 pub record BuiltIn (b : Built) (answer : Answer) (root : ℕ) (hs xs : List (List ℕ)) (ss ms : List (List Float)) : Type 0 where
@@ -68,8 +69,8 @@ pub record Passed (bs : List ℕ) (t : Places) : Type 0 where
 -- ---- from a draft to the rules' answer: what is accepted is repaired, what is refused stays
 
 abbrev pub repaired_by : Answer → Built → Built
-repaired_by Accepted b = built_from b.tree.nodes
-repaired_by (Refused e) b = b
+repaired_by (Ok _) b = built_from b.tree.nodes
+repaired_by (Err e) b = b
 
 abbrev pub repaired : Built → Built
 repaired b = repaired_by b.answer b

@@ -7,7 +7,7 @@ use Rattle.rules.specs.Lists.{any_of}
 use Rattle.rules.specs.Tree.{Arena, arena, tile}
 use Rattle.rules.specs.Table.{read_table}
 use Rattle.rules.specs.Spec.{left_of, validate, Built, Build, padded, built_nodes, refused_spec, wide_row}
-use Rattle.rules.specs.declared.refusal.Answer.TheVariants.{Accepted, Refused}
+use Rattle.rules.specs.Refusals.{Accepted, Refused}
 use Rattle.rules.specs.declared.refusal.Refusal.{Refusal}
 use Rattle.rules.specs.declared.refusal.Refusal.TheVariants.{BadTable, ArenaFull, TooWide}
 use Rattle.columns.specs.Columns.{nodes_from}

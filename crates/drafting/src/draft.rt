@@ -51,17 +51,17 @@ pub fn build_into(
     ensures { BuiltIn (draft_of b.now) result 0 heads.new ids.new shares.new minima.new }
 {
     let Sections::Four(t) = read_table(b) else {
-        return Answer::Refused(Refusal::BadTable);
+        return Err(Refusal::BadTable);
     };
     if 64 < t.row_count {
-        return Answer::Refused(Refusal::ArenaFull);
+        return Err(Refusal::ArenaFull);
     }
     if too_wide(b, t) {
-        return Answer::Refused(Refusal::TooWide);
+        return Err(Refusal::TooWide);
     }
     if let Checked::Bad(e) = check_rows(b, t) {
-        return Answer::Refused(e);
+        return Err(e);
     }
     built_into(b, t, heads, ids, shares, minima);
-    Answer::Accepted
+    Ok(())
 }

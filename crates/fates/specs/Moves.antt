@@ -14,7 +14,7 @@ use Rattle.rules.specs.declared.model.TileId.{TileId}
 use Rattle.rules.specs.declared.model.Axis.TheVariants.{Horizontal}
 use Rattle.rules.specs.declared.model.Placement.TheVariants.{After}
 use Rattle.rules.specs.declared.model.TabBarPlacement.TheVariants.{Top}
-use Rattle.rules.specs.declared.operation.TabIndex.{TabIndex}
+use Rattle.rules.specs.Operations.{TabIndex}
 use Rattle.rules.specs.declared.operation.DockTarget.{DockTarget}
 use Rattle.rules.specs.declared.operation.DockTarget.TheVariants.{Root, Split, TabInto}
 use Rattle.rules.specs.declared.operation.TileOp.{TileOp}

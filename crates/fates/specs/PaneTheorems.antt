@@ -18,7 +18,7 @@ use Rattle.rules.specs.declared.model.Axis.{Axis}
 use Rattle.rules.specs.declared.model.Placement.{Placement}
 use Rattle.rules.specs.declared.operation.TileOp.{TileOp}
 use Rattle.rules.specs.declared.operation.TileOp.TheVariants.{ActivatePane, ClosePane, SplitPane, MovePane, ReorderTab}
-use Rattle.rules.specs.declared.refusal.Answer.TheVariants.{Accepted}
+use Rattle.rules.specs.Refusals.{Accepted}
 use Rattle.forest.specs.Lists.{All, all_map, all_append, all-member, member-cases}
 use Rattle.forest.specs.Answers.{refused-not}
 use Rattle.forest.specs.Settled.{slots}

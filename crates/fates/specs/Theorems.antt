@@ -27,7 +27,7 @@ use Rattle.rules.specs.declared.operation.DockTarget.{DockTarget}
 use Rattle.rules.specs.declared.operation.DockTarget.TheVariants.{Root, Split, TabInto}
 use Rattle.rules.specs.declared.operation.TileOp.{TileOp}
 use Rattle.rules.specs.declared.operation.TileOp.TheVariants.{ActivatePane, ClosePane, SplitPane, MovePane, ReorderTab}
-use Rattle.rules.specs.declared.refusal.Answer.TheVariants.{Accepted}
+use Rattle.rules.specs.Refusals.{Accepted}
 use Rattle.rules.specs.declared.refusal.Refusal.{Refusal}
 use Rattle.rules.specs.declared.refusal.Refusal.TheVariants.{ArenaFull, TooWide, NotSound, RevisionExhausted}
 use Rattle.forest.specs.Lists.{All, all_drop}

@@ -2,8 +2,8 @@
 use Rattle.std.specs.Prelude.{◌≡◌, ℕ}
 use Rattle.std.proofs.Common.{sym, ◌∙◌, arith}
 use Rattle.std.proofs.Math.Option.{none, some}
-use Rattle.rules.specs.declared.refusal.Answer.{Answer}
-use Rattle.rules.specs.declared.refusal.Answer.TheVariants.{Accepted, Refused}
+use Rattle.rules.specs.Refusals.{Answer}
+use Rattle.rules.specs.Refusals.{Accepted, Refused}
 use Rattle.rules.specs.declared.refusal.Refusal.{Refusal}
 
 pub refused-not : {A : Type 0} {e : Refusal} → Refused e ≡ Accepted → A

@@ -8,7 +8,7 @@ use Rattle.rules.specs.Tree.{Node, Arena, arena, tile, set_node, empty_slots, em
 use Rattle.rules.specs.Repair.{Work, Out, sweep_by, sweep, rooted, begin, normalize_node, normalize, Repaired, refused_repair, repaired_by, repaired_as, repair_by, repair}
 use Rattle.rules.specs.declared.model.TileId.{TileId}
 use Rattle.rules.specs.declared.model.RepairAction.{RepairAction}
-use Rattle.rules.specs.declared.refusal.Answer.TheVariants.{Accepted}
+use Rattle.rules.specs.Refusals.{Accepted}
 use Rattle.rules.specs.declared.refusal.Refusal.TheVariants.{ArenaFull, TooWide}
 use Rattle.forest.specs.Lists.{never}
 use Rattle.forest.specs.Grow.{Grown, Left, nothing, group, branch, kept_of, stem, tile-keeps}

@@ -19,7 +19,7 @@ use Rattle.rules.specs.declared.model.TileId.{TileId}
 use Rattle.rules.specs.declared.model.Axis.{Axis}
 use Rattle.rules.specs.declared.model.Axis.TheVariants.{Horizontal}
 use Rattle.rules.specs.declared.model.TabBarPlacement.{TabBarPlacement}
-use Rattle.rules.specs.declared.refusal.Answer.TheVariants.{Accepted}
+use Rattle.rules.specs.Refusals.{Accepted}
 use Rattle.forest.specs.Lists.{All, Distinct, never, all_map, all_both, all_append, all_left, all_right, member-all, distinct-left, distinct-right, distinct_apart, false-contains, free, free-set, marked, marked_append, marked_other, none-at, set-mono, set_back}
 use Rattle.forest.specs.Mended.{fix_minimum-twice}
 use Rattle.forest.specs.Lengths.{repaired-length, aligned-length}

@@ -14,7 +14,7 @@ use Rattle.rules.specs.Tree.{Node, empty, pane, tabs, split, Arena, arena, clear
 use Rattle.rules.specs.Repair.{Normal, normalize, Repaired, repaired_by, repaired_as, repair_by, repair}
 use Rattle.rules.specs.Sound.{untouched, lone_empty_root, sound}
 use Rattle.rules.specs.declared.model.TileId.{TileId}
-use Rattle.rules.specs.declared.refusal.Answer.TheVariants.{Accepted}
+use Rattle.rules.specs.Refusals.{Accepted}
 use Rattle.forest.specs.Lists.{All}
 use Rattle.forest.specs.Answers.{refused-not}
 use Rattle.forest.specs.Mended.{same_real-self}

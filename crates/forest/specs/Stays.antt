@@ -8,7 +8,7 @@ use Rattle.rules.specs.Tree.{Node, empty, pane, tabs, split, Arena, is_empty, ki
 use Rattle.rules.specs.Target.{panes_in}
 use Rattle.rules.specs.Repair.{Normal, Out, begin, normalize_node, normalize, Repaired, repaired_by, repaired_as, repair_by, repair}
 use Rattle.rules.specs.declared.model.TileId.{TileId}
-use Rattle.rules.specs.declared.refusal.Answer.TheVariants.{Accepted}
+use Rattle.rules.specs.Refusals.{Accepted}
 use Rattle.forest.specs.Lists.{All, never, none-at}
 use Rattle.forest.specs.Answers.{refused-not}
 use Rattle.forest.specs.Soundness.{slots-inside}

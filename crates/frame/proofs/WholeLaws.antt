@@ -1,4 +1,5 @@
 -- Laws of a whole layout by value: what was sorted out of the stream is the rule's frame. Assumes nothing.
+use Rattle.std.specs.Prelude.{Ok, Err}
 use mathlib.Core.Path.{◌≡◌, refl, sym, ap, subst, ◌∙◌}
 use mathlib.Core.Bool.{Bool, true, false}
 use mathlib.Core.List.{List, [], map}
@@ -11,8 +12,8 @@ use Rattle.rules.specs.Sound.{sound}
 use Rattle.rules.specs.Frame.{Item, Laid, gather, pane_of, bar_of, tab_of, child_of, handle_of, focus_of, paint_of, layout_by, layout, layout_items, plus_input}
 use Rattle.rules.specs.declared.model.TileTree.{TileTree}
 use Rattle.rules.specs.declared.frame.LayoutInput.{LayoutInput}
-use Rattle.rules.specs.declared.refusal.Answer.{Answer}
-use Rattle.rules.specs.declared.refusal.Answer.TheVariants.{Accepted, Refused}
+use Rattle.rules.specs.Refusals.{Answer}
+use Rattle.rules.specs.Refusals.{Accepted, Refused}
 use Rattle.frames.specs.Fits.{panes-fit, bars-fit, tabs-fit, children-fit, handles-fit, focus-fits, paint-fits}
 use Rattle.streaming.specs.Stream.{stream, items_from, items_in}
 use Rattle.layout.specs.Whole.{LaysOut}
@@ -46,9 +47,9 @@ module _ (t : TileTree) (i : LayoutInput) (cs : List (List ℕ)) (qs : List (Lis
   fits f most h = by r.answer refl
     where
       by : (x : Answer) → r.answer ≡ x → length (gather f found) ≤ most
-      by Accepted e =
+      by (Ok _) e =
           subst (λ (xs : List Item). length (gather f xs) ≤ most) (sym (W.items e)) (h (accepted-sound (view t) i (ap (λ (l : Laid). l.answer) (sym W.right) ∙ e)))
-      by (Refused x) e =
+      by (Err x) e =
           let none : found ≡ [] = ap (λ (n : ℕ). items_in (stream cs' qs' n)) (W.untouched x e).0 in
           subst (λ (xs : List Item). length (gather f xs) ≤ most) (sym none) (omega arith)
 

@@ -14,7 +14,7 @@ use Rattle.rules.specs.Sound.{sound}
 use Rattle.rules.specs.Tabs.{major_size}
 use Rattle.rules.specs.Frame.{Item, focus_item, pane_item, bar_item, tab_item, child_item, handle_item, limit, minus-limit, coordinate_ok, thickness_ok, bounds_ok, size_ok, input_ok, plus_input, child_total, child_minima, split_lengths, child_of, gather, layout_items, layout_by, layout_input_by, layout, Frame, frame_of, pane_of, bar_of, tab_of, handle_of}
 use Rattle.rules.specs.declared.model.TileId.{TileId}
-use Rattle.rules.specs.declared.refusal.Answer.TheVariants.{Accepted}
+use Rattle.rules.specs.Refusals.{Accepted}
 use Rattle.rules.specs.declared.model.Axis.{Axis}
 use Rattle.rules.specs.declared.model.Axis.TheVariants.{Horizontal, Vertical}
 use Rattle.rules.specs.declared.frame.LayoutInput.{LayoutInput}

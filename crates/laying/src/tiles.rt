@@ -130,7 +130,7 @@ fn layout_split(
     let mut j = 0usize;
     while j < count {
         let child = children[j];
-        let length = real_lists::reals::get(lengths, j, 0.0);
+        let length = lists::get(lengths, j, 0.0);
         let room = splits::along_rect(axis, rect, at, length);
         m = stream::push_child(items, rects, m, id, child, j, room);
         m = layout_tile(

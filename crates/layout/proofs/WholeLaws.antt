@@ -10,7 +10,7 @@ use Rattle.rules.specs.Tree.{Arena}
 use Rattle.rules.specs.Sound.{sound}
 use Rattle.rules.specs.Frame.{frame_of, refused_layout, layout_input_by, layout_by, layout, layout_items, input_ok, plus_input}
 use Rattle.rules.specs.declared.frame.LayoutInput.{LayoutInput}
-use Rattle.rules.specs.declared.refusal.Answer.TheVariants.{Accepted, Refused}
+use Rattle.rules.specs.Refusals.{Accepted, Refused}
 use Rattle.rules.specs.declared.refusal.Refusal.{Refusal}
 use Rattle.rules.specs.declared.refusal.Refusal.TheVariants.{NotSound, BadInput}
 use Rattle.forest.specs.Answers.{not-both}

@@ -3,7 +3,7 @@ use Rattle.std.specs.Prelude.{◌≡◌, ℕ, ◌≤◌, List, ◌++◌, map, le
 use Rattle.rules.specs.Tree.{Arena}
 use Rattle.rules.specs.Frame.{Laid, frame_of, layout_items, plus_input, layout}
 use Rattle.rules.specs.declared.frame.LayoutInput.{LayoutInput}
-use Rattle.rules.specs.declared.refusal.Answer.TheVariants.{Accepted, Refused}
+use Rattle.rules.specs.Refusals.{Accepted, Refused}
 use Rattle.rules.specs.declared.refusal.Refusal.{Refusal}
 use Rattle.streaming.specs.Stream.{code_of, sides_of, stream, items_in}
 use Rattle.layout.specs.declared.LaidOut.{LaidOut}

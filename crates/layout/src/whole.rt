@@ -3,7 +3,7 @@ ghost use Rattle.std.specs.Prelude.{◌≡◌, Bool, length};
 ghost use Rattle.rules.specs.Tree.{view};
 ghost use Rattle.rules.specs.Sound.{sound};
 ghost use Rattle.rules.specs.Frame.{layout_items};
-ghost use Rattle.rules.specs.declared.refusal.Answer.TheVariants as Answers;
+ghost use Rattle.rules.specs.Refusals as Answers;
 ghost use Rattle.columns.specs.Shown.{arena_from, Plain};
 ghost use Rattle.streaming.specs.Stream as Streams;
 ghost use Rattle.layout.specs.Whole.{LaysOut};
@@ -58,7 +58,7 @@ fn refused(revision: u64, e: Refusal) -> LaidOut
     ensures { (result.answer ≡ Answers.Refused e) × (result.revision ≡ revision) × (result.len ≡ 0) }
 {
     LaidOut {
-        answer: Answer::Refused(e),
+        answer: Err(e),
         revision,
         len: 0,
     }
@@ -90,7 +90,7 @@ pub fn layout_columns(
     let plain = input::plus_input(input);
     let len = place(root, plain, heads, ids, shares, minima, items, rects);
     LaidOut {
-        answer: Answer::Accepted,
+        answer: Ok(()),
         revision,
         len,
     }

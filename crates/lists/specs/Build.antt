@@ -1,6 +1,6 @@
 -- The one law of every fill: a fresh array of 16 d's that a loop fills from its front with the entries of xs ends as exactly xs.
 -- It holds for any type of entry. Assumes nothing.
-use Rattle.std.specs.Prelude.{◌≡◌, length, take, get_or, set}
+use Rattle.std.specs.Prelude.{◌≡◌, length, take, drop, get_or, set}
 use Rattle.std.proofs.Math.Path.{refl, ap}
 use Rattle.std.proofs.Common.{sym, ◌∙◌, subst, le_of_suc-le-suc, add-one, arith, length-append, take-suc, take_all, length-take-le, take-suc-set}
 use mathlib.Core.List.{List, [], ◌∷◌, ◌++◌}
@@ -14,6 +14,23 @@ module _ {A : Type 0} where
   take-pad_to n d [] h = refl
   take-pad_to zero d (x ∷ xs) h = absurd (omega arith)
   take-pad_to (suc n) d (x ∷ xs) h = ap (λ (l : List A). x ∷ l) (take-pad_to n d xs (le_of_suc-le-suc h))
+
+  -- blanks past entries that were copied over the front
+  pub padded-drop : (n : ℕ) (d : A) (xs : List A) → length xs ≤ n → xs ++ drop (length xs) (pad_to n d []) ≡ pad_to n d xs
+  unfolding pad_to
+  padded-drop zero d [] h = refl
+  padded-drop zero d (x ∷ xs) h = absurd (omega arith)
+  padded-drop (suc n) d [] h = refl
+  padded-drop (suc n) d (x ∷ xs) h = ap (λ (l : List A). x ∷ l) (padded-drop n d xs (le_of_suc-le-suc h))
+
+  pub exactly-none : (d b : A) → b ≡ d → Exactly d (pad_to 16 b []) 0 []
+  exactly-none d b e = record { list = refl; size = refl; few = omega arith; padded = ap (λ (y : A). pad_to 16 y []) e }
+
+  -- entries copied over the front of 16 blanks
+  pub front-filled : (d b : A) (ys xs : List A) (n : ℕ) → b ≡ d → ys ≡ xs → n ≡ length xs → n ≤ 16 → Exactly d (ys ++ drop n (pad_to 16 b [])) n xs
+  front-filled d b ys xs n e f s h =
+      let p : ys ++ drop n (pad_to 16 b []) ≡ pad_to 16 d xs = (λ j. f j ++ drop (s j) (pad_to 16 (e j) [])) ∙ padded-drop 16 d xs (omega (arith, s)) in
+      record { list = (λ j. take (s j) (p j)) ∙ take-pad_to 16 d xs (omega (arith, s)); size = s; few = h; padded = p }
 
   -- a store just past the entries is one entry more
   pub set-pad_to : (n : ℕ) (d : A) (xs : List A) (x : A) → length xs < n → set (pad_to n d xs) (length xs) x ≡ pad_to n d (xs ++ x ∷ [])

@@ -3,9 +3,9 @@ use Rattle.std.specs.Prelude.{◌≡◌, List, [], ◌∷◌, ◌++◌, ℕ, zer
 use Rattle.rules.specs.Numbers.{zero-f}
 use Rattle.rules.specs.Tree.{tile}
 use Rattle.rules.specs.declared.model.TileId.{TileId}
-use Rattle.rules.specs.declared.model.Ids.{Ids}
-use Rattle.rules.specs.declared.model.Tiles.{Tiles}
-use Rattle.rules.specs.declared.model.Reals.{Reals}
+use Rattle.rules.specs.Tree.{Ids}
+use Rattle.rules.specs.Tree.{Tiles}
+use Rattle.rules.specs.Tree.{Reals}
 
 -- n entries: those of xs, then d at each place that is left
 unfoldable pub pad_to : {A : Type 0} → ℕ → A → List A → List A

@@ -6,12 +6,12 @@ use mathlib.Core.List.{List, [], ◌∷◌}
 use Rattle.std.proofs.Math.Option.{Option, none, some}
 use Rattle.std.proofs.Math.Nat.{sub-zero}
 use Rattle.rules.specs.Lists.{first_by, position_from, position}
-use Rattle.lists.specs.declared.Place.{Place}
-use Rattle.lists.specs.declared.Place.TheVariants.{At, Nothing}
+use Rattle.std.specs.Prelude as Std
 
-abbrev pub place_of : Place → Option ℕ
-place_of (At i) = some i
-place_of Nothing = none
+-- an Option of the code as one of the rules
+abbrev pub place_of : Std.Option ℕ → Option ℕ
+place_of (Std.Some i) = some i
+place_of Std.None = none
 
 module _ {A : Type 0} (t : A → Bool) where
   -- a search that has passed i entries of xs

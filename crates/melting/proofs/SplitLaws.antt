@@ -21,7 +21,7 @@ use Rattle.rules.specs.declared.model.TileId.{TileId}
 use Rattle.rules.specs.declared.model.Axis.{Axis}
 use Rattle.rules.specs.declared.model.RepairAction.{RepairAction}
 use Rattle.rules.specs.declared.model.RepairAction.TheVariants.{RemovedInvalidNode, RepairedShares, RepairedConstraints, CollapsedSplit}
-use Rattle.rules.specs.declared.model.Reals.{Reals}
+use Rattle.rules.specs.Tree.{Reals}
 use Rattle.lists.specs.Exact.{IsReals}
 use Rattle.forest.specs.Lists.{free}
 use Rattle.forest.specs.Lengths.{repaired-length, aligned-length}

@@ -4,7 +4,7 @@ use Rattle.rules.specs.Shares.{repaired_shares}
 use Rattle.rules.specs.Minima.{aligned_constraints}
 use Rattle.rules.specs.Tree.{tile, ids, reals}
 use Rattle.rules.specs.Repair.{Work, Entry, entries, run, split_noted, split_done}
-use Rattle.rules.specs.declared.model.Reals.{Reals}
+use Rattle.rules.specs.Tree.{Reals}
 use Rattle.forest.specs.Lists.{free}
 use Rattle.sifting.specs.Work.{Cols, cols, Sized, Shows}
 use Rattle.columns.specs.Columns.{Lists, axis_from}

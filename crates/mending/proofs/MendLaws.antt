@@ -1,4 +1,5 @@
 -- Laws of a repair of lent arrays: how what the parts left gives what is promised. Assumes nothing.
+use Rattle.std.specs.Prelude.{Ok, Err}
 use mathlib.Core.Path.{◌≡◌, refl, sym, ap, subst, ◌∙◌}
 use mathlib.Core.Bool.{Bool, true, false, not, ◌&&◌}
 use mathlib.Core.List.{List, ◌++◌, map}
@@ -12,8 +13,8 @@ use Rattle.rules.specs.Sound.{is_accepted, is_none}
 use Rattle.rules.specs.Repair.{Repaired, repair}
 use Rattle.rules.specs.Refusals.{refusal_of, answer_of}
 use Rattle.rules.specs.declared.model.RepairAction.{RepairAction}
-use Rattle.rules.specs.declared.refusal.Answer.{Answer}
-use Rattle.rules.specs.declared.refusal.Answer.TheVariants.{Accepted, Refused}
+use Rattle.rules.specs.Refusals.{Answer}
+use Rattle.rules.specs.Refusals.{Accepted, Refused}
 use Rattle.rules.specs.declared.refusal.Refusal.{Refusal}
 use Rattle.rules.specs.declared.refusal.Refusal.TheVariants.{BadTable, ArenaFull, TooWide, NotSound, BadInput, InvalidTileId, InvalidPaneId, InvalidTarget, InvalidOperation, DuplicatePane, RevisionExhausted, EmptyTabs, TooFewSplitChildren, ShareCountMismatch, InvalidShare, TooManySplitConstraints, InvalidSplitConstraint, InvalidActiveTab}
 use Rattle.forest.specs.Lists.{never}
@@ -81,8 +82,8 @@ mends l acts b a hs xs ss ms list d l' acts' out' n v C W T K =
 -- ---- a repair that lists nothing
 
 accepted-is : (a : Answer) → is_accepted a ≡ true → a ≡ Accepted
-accepted-is Accepted e = refl
-accepted-is (Refused r) e = never (sym e)
+accepted-is (Ok _) e = refl
+accepted-is (Err r) e = never (sym e)
 
 pub mends-still : (l : Lot) (a : Arena) (hs xs : List (List ℕ)) (ss ms : List (List Float)) (list : List (List ℕ)) (d : Settled) (l' : Lot) (out' : List ℕ) (n : ℕ)
     → is_still (repair a) ≡ true → Comes a (repair a) hs xs ss ms list d → Holds (arena_from d.root a.revision hs xs ss ms) l' → Tells Accepted 0 0 out' n

@@ -1,7 +1,7 @@
 -- What a repair leaves in the lent arrays: l is the arena's lot as given, l' as it is left, and so for the other arrays. Definitions only.
 use Rattle.std.specs.Prelude.{◌≡◌, List, ◌++◌, map, ℕ, length, drop}
 use Rattle.rules.specs.Repair.{Repaired}
-use Rattle.rules.specs.declared.refusal.Answer.TheVariants.{Accepted, Refused}
+use Rattle.rules.specs.Refusals.{Accepted, Refused}
 use Rattle.rules.specs.declared.refusal.Refusal.{Refusal}
 use Rattle.columns.specs.Columns.{code_of}
 use Rattle.coding.specs.Lent.{Lot}

@@ -15,8 +15,8 @@ use Rattle.rules.specs.Tree.{tabs, ids, view_slot, node_of, over_by, over_slot, 
 use Rattle.rules.specs.Repair.{active_of}
 use Rattle.rules.specs.Operations.{set_active, clamped, tabbed_in, landing, kept_active, reordered}
 use Rattle.rules.specs.declared.model.TabBarPlacement.{TabBarPlacement}
-use Rattle.rules.specs.declared.operation.TabIndex.{TabIndex}
-use Rattle.rules.specs.declared.model.Ids.{Ids}
+use Rattle.rules.specs.Operations.{TabIndex}
+use Rattle.rules.specs.Tree.{Ids}
 use Rattle.rules.specs.declared.model.Kind.{Kind}
 use Rattle.rules.specs.declared.model.Kind.TheVariants.{Empty, Pane, Tabs, Split}
 use Rattle.rules.specs.declared.model.Slot.{Slot}

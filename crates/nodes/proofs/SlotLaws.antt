@@ -24,7 +24,7 @@ use Rattle.rules.specs.declared.model.Kind.{Kind}
 use Rattle.rules.specs.declared.model.Kind.TheVariants.{Tabs, Split}
 use Rattle.rules.specs.declared.model.Slot.{Slot}
 use Rattle.rules.specs.declared.model.Placement.{Placement}
-use Rattle.rules.specs.declared.operation.TabIndex.{TabIndex}
+use Rattle.rules.specs.Operations.{TabIndex}
 use Rattle.rules.specs.declared.operation.DockTarget.TheVariants.{Root, Split as BesideTile, TabInto}
 use Rattle.rules.specs.declared.refusal.Refusal.TheVariants.{InvalidTileId, InvalidTarget}
 use Rattle.forest.specs.Lists.{All, never}

@@ -11,7 +11,6 @@ ghost use Rattle.nodes.specs.Find.{scan_pane, scan_parent};
 ghost use Rattle.nodes.specs.Parts.{location_of, holder_of};
 
 use crate::{Holder, PaneLocation};
-use lists::{Place, ids};
 use rules::model::{Ids, TileId};
 
 pub fn is_somewhere(l: PaneLocation) -> bool
@@ -39,10 +38,10 @@ fn in_tabs(panes: Ids, pane: u64, group: TileId) -> PaneLocation
     requires { panes.len ≤ 16 }
     ensures { location_of result ≡ Rule.tabs_have (position (eqb pane) (ids_in panes)) group nowhere }
 {
-    let place = ids::position(panes, pane);
+    let place = lists::position(panes, pane);
     match place {
-        Place::At(index) => PaneLocation::InTabs { group, index },
-        Place::Nothing => PaneLocation::Nowhere,
+        Some(index) => PaneLocation::InTabs { group, index },
+        None => PaneLocation::Nowhere,
     }
 }
 
@@ -84,7 +83,7 @@ pub fn find_pane(heads: &[[u64; 8]; 64], ids: &[[u64; 16]; 64], pane: u64) -> Pa
 }
 
 // The place of a tile among the children of one row.
-fn place_in(heads: &[[u64; 8]; 64], ids: &[[u64; 16]; 64], i: usize, target: u64) -> Place
+fn place_in(heads: &[[u64; 8]; 64], ids: &[[u64; 16]; 64], i: usize, target: u64) -> Option<usize>
     requires { (length heads.now ≡ 64) × (length ids.now ≡ 64) × (i < 64) × (over_head (get_or heads.now i []) ≡ false) }
     ensures { (ss ms : List Float) → place_of result ≡ position (same_tile (tile target)) (kids_of (node_from (get_or heads.now i []) (get_or ids.now i []) ss ms)) }
 {
@@ -95,9 +94,9 @@ fn place_in(heads: &[[u64; 8]; 64], ids: &[[u64; 16]; 64], i: usize, target: u64
             at: row,
             len: h[4] as usize,
         };
-        return ids::position(children, target);
+        return lists::position(children, target);
     }
-    Place::Nothing
+    None
 }
 
 // find_parent
@@ -108,7 +107,7 @@ pub fn find_parent(heads: &[[u64; 8]; 64], ids: &[[u64; 16]; 64], target: TileId
     let mut i = 0usize;
     while i < 64 {
         let place = place_in(heads, ids, i, target.slot);
-        if let Place::At(index) = place {
+        if let Some(index) = place {
             return Holder::In {
                 split: TileId { slot: i as u64 },
                 index,

@@ -9,10 +9,7 @@ ghost use Rattle.nodes.specs.Parts.{Rows, Spared};
 
 use crate::Spares;
 use columns::{pack, unpack};
-use lists::ids;
-use real_lists::reals;
 use rules::model::{Kind, Reals, Slot, TabBarPlacement, TileId, Tiles};
-use tile_lists::tiles;
 
 // get_node, and the one place that resolves a tile id: one past the slots reads as empty.
 pub fn get_node(
@@ -113,8 +110,8 @@ pub fn top_group(pane: u64) -> Slot
     ensures { (view_slot result ≡ Node.tabs Bars.Top 0 (pane ∷ [])) × (over_slot result ≡ false) }
 {
     let mut s = pack::bare_slot(Kind::Tabs(TabBarPlacement::Top));
-    let none = ids::empty();
-    let panes = ids::push(none, pane);
+    let none = lists::empty();
+    let panes = lists::push(none, pane);
     s.active = 0;
     s.panes = panes;
     s
@@ -124,16 +121,16 @@ pub fn top_group(pane: u64) -> Slot
 pub fn two_tiles(a: TileId, b: TileId) -> Tiles
     ensures { IsTiles result (a ∷ b ∷ []) }
 {
-    let none = tiles::empty();
-    let one = tiles::push(none, a);
-    tiles::push(one, b)
+    let none = lists::empty();
+    let one = lists::push(none, a);
+    lists::push(one, b)
 }
 
 // vec![a, b], of shares
 pub fn two_reals(a: f64, b: f64) -> Reals
     ensures { IsReals result (a ∷ b ∷ []) }
 {
-    let none = reals::empty();
-    let one = reals::push(none, a);
-    reals::push(one, b)
+    let none = lists::empty();
+    let one = lists::push(none, a);
+    lists::push(one, b)
 }

@@ -9,7 +9,6 @@ ghost use Rattle.nodes.specs.Find.{Stands};
 
 use crate::{PaneLocation, slots};
 use columns::pack;
-use lists::ids;
 use rules::model::{Kind, Slot};
 
 // The active index, once the pane at index went and n are left.
@@ -42,7 +41,7 @@ fn removed_from(s: Slot, index: usize) -> Slot
         Kind::Empty => s,
         Kind::Pane(_) => s,
         Kind::Tabs(_) => {
-            let left = ids::remove(panes, index);
+            let left = lists::remove(panes, index);
             let mut r = s;
             r.active = active_after(index, s.active, left.len);
             r.panes = left;

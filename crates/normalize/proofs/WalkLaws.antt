@@ -18,7 +18,7 @@ use Rattle.rules.specs.Tree.{Node, empty, split, tile, node_at, ids, reals}
 use Rattle.rules.specs.Repair.{State, Work, Out, gone, claim, Entry, entry, entries, Run, run, melts, place_by, place, place_out, kids_from, split_noted, split_done, split_step, by_claimed, by_range, tile_step, normalize_node}
 use Rattle.rules.specs.declared.model.TileId.{TileId}
 use Rattle.rules.specs.declared.model.Axis.{Axis}
-use Rattle.rules.specs.declared.model.Reals.{Reals}
+use Rattle.rules.specs.Tree.{Reals}
 use Rattle.lists.specs.Places.{get_d-used}
 use Rattle.forest.specs.Lists.{All, never, free, free-set, all_get_d}
 use Rattle.forest.specs.Codec.{Least, start-least}

@@ -2,7 +2,7 @@
 use Rattle.std.specs.Prelude.{◌≡◌, Bool, true, false, List, [], ℕ, suc, ◌+◌, ◌≤◌, set, Float}
 use Rattle.rules.specs.Tree.{tile, reals}
 use Rattle.rules.specs.Repair.{Work, run, claim, kids_from, split_done, normalize_node}
-use Rattle.rules.specs.declared.model.Reals.{Reals}
+use Rattle.rules.specs.Tree.{Reals}
 use Rattle.forest.specs.Lists.{All}
 use Rattle.forest.specs.Codec.{Least}
 use Rattle.sifting.specs.Work.{Cols, cols, Sized, Shows}

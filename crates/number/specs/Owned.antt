@@ -5,12 +5,13 @@ use Rattle.std.specs.Float.{binary64}
 use Rattle.std.specs.Float.Ieee.{fits}
 use mir.Val.{Val}
 use denote.Array.{each}
+use denote.Builtin.{f64}
 use denote.Floats.{FloatOf}
 use denote.Shadow.{shadow}
 use denote.RattleType.{Valss, owns}
 use denote.Struct as Struct
-use Rattle.rules.specs.declared.model.Reals.{Reals}
-use Rattle.rules.specs.contracts.model.Reals.{the_type}
+use Rattle.rules.specs.Tree.{Reals}
+use Rattle.rules.specs.contracts.model.Sixteen.{the_type}
 use Rattle.number.specs.Each.{All, none, more}
 
 pub floats-fit : (xs : List Float) (us : List Val) → shadow (each Float (FloatOf binary64).own_val xs us) → All (λ (x : Float). T (fits binary64 x)) xs
@@ -28,5 +29,5 @@ pub record Owned (l : Reals) : Type 0 where
   pub fit : All (λ (x : Float). T (fits binary64 x)) l.at
 
 -- In a function's proof, of a Reals that is the parameter at `GOOD` of `c .. .good`: reals-owned (.. .args .NAME) GOOD.0 GOOD.1.1
-pub reals-owned : (l : Reals) (us : Valss (Struct.Declared.shape the_type).fields) → shadow (owns (Struct.Declared.shape the_type).fields (the_type.to l) us) → Owned l
+pub reals-owned : (l : Reals) (us : Valss (Struct.Declared.shape (the_type f64)).fields) → shadow (owns (Struct.Declared.shape (the_type f64)).fields ((the_type f64).to l) us) → Owned l
 reals-owned l us p = record { long = p.0.1.0.1; fit = floats-fit l.at p.0.0 p.0.1.1 }

@@ -3,7 +3,7 @@ ghost use Rattle.std.specs.Prelude.{◌≡◌, false};
 ghost use Rattle.rules.specs.Tree.{Arena};
 ghost use Rattle.rules.specs.Operations.{Step};
 ghost use Rattle.rules.specs.Operations as Rule;
-ghost use Rattle.rules.specs.declared.refusal.Answer.TheVariants as Answers;
+ghost use Rattle.rules.specs.Refusals as Answers;
 ghost use Rattle.columns.specs.Columns.{nodes_from};
 ghost use Rattle.columns.specs.Pack.{Even};
 ghost use Rattle.docking.specs.Steps.{Makes, Comes};
@@ -16,7 +16,7 @@ pub fn refused(root: u64, revision: u64, e: Refusal) -> AppliedIn
     ensures { (result.answer ≡ Answers.Refused e) × (result.changed ≡ false) × (result.root ≡ root) × (result.revision ≡ revision) }
 {
     AppliedIn {
-        answer: Answer::Refused(e),
+        answer: Err(e),
         root,
         revision,
         changed: false,
@@ -45,12 +45,12 @@ pub fn change(
     let done = settle::settle(top, spare, heads, ids, shares, minima, &mut acts);
     let answer = done.answer;
     match answer {
-        Answer::Accepted => AppliedIn {
-            answer: Answer::Accepted,
+        Ok(()) => AppliedIn {
+            answer: Ok(()),
             root: done.root,
             revision: revision + 1,
             changed: true,
         },
-        Answer::Refused(e) => refused(root, revision, e),
+        Err(e) => refused(root, revision, e),
     }
 }

@@ -4,7 +4,7 @@ ghost use Rattle.rules.specs.Tree.{Arena, view};
 ghost use Rattle.rules.specs.Sound.{sound};
 ghost use Rattle.rules.specs.Operations as Rule;
 ghost use Rattle.rules.specs.declared.refusal.Refusal.{Refusal};
-ghost use Rattle.rules.specs.declared.refusal.Answer.TheVariants as Answers;
+ghost use Rattle.rules.specs.Refusals as Answers;
 ghost use Rattle.columns.specs.Shown.{arena_from, Plain};
 ghost use Rattle.docking.specs.Steps.{applied, Does, Ready, Comes};
 
@@ -77,7 +77,7 @@ pub fn apply_columns(
     match step {
         Stepped::Refused(e) => finish::refused(root, revision, e),
         Stepped::Unchanged => AppliedIn {
-            answer: Answer::Accepted,
+            answer: Ok(()),
             root,
             revision,
             changed: false,

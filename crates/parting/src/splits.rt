@@ -10,9 +10,7 @@ ghost use Rattle.nodes.specs.Parts.{beside_of, Rows};
 
 use columns::pack;
 use nodes::{Beside, slots};
-use real_lists::reals;
 use rules::model::{Axis, Kind, Placement, Reals, Slot, TileId};
-use tile_lists::tiles;
 use util::{minima, shares};
 
 fn same_axis(a: Axis, b: Axis) -> bool
@@ -81,13 +79,13 @@ fn divided_shares(shares: Reals, b: Beside, index: usize) -> Reals
     requires { (index < shares.len) × (shares.len < 16) }
     ensures { IsReals result (divided_shares (beside_of b) index (Tree.reals shares)) }
 {
-    let old = reals::get(shares, index, 1.0);
+    let old = lists::get(shares, index, 1.0);
     let inserted = inserted_share(old, b.share);
     let kept = target_share(old, b.share);
-    let set = reals::replace(shares, index, kept);
+    let set = lists::replace(shares, index, kept);
     let placement = b.placement;
     let place = insert_index(placement, index);
-    reals::insert(set, place, inserted)
+    lists::insert(set, place, inserted)
 }
 
 // A split with the tile inserted at the target's side, with minimum 0.
@@ -101,11 +99,11 @@ pub fn inserted_in(s: Slot, b: Beside, inserted: TileId, index: usize) -> Slot
     let least = s.minima;
     let placement = b.placement;
     let place = insert_index(placement, index);
-    let kids = tiles::insert(children, place, inserted);
+    let kids = lists::insert(children, place, inserted);
     let old = shares::repaired_shares(n, given);
     let parts = divided_shares(old, b, index);
     let aligned = minima::aligned_constraints(n, least);
-    let more = reals::insert(aligned, place, 0.0);
+    let more = lists::insert(aligned, place, 0.0);
     let mins = minima::compact_constraints(more);
     let mut r = s;
     r.children = kids;
@@ -136,7 +134,7 @@ fn split_of(axis: Axis, first: TileId, second: TileId, a: f64, b: f64) -> Slot
     let mut s = pack::bare_slot(Kind::Split(axis));
     let children = slots::two_tiles(first, second);
     let parts = slots::two_reals(a, b);
-    let none = reals::empty();
+    let none = lists::empty();
     s.children = children;
     s.shares = parts;
     s.minima = none;
@@ -149,7 +147,7 @@ pub fn replaced_in(s: Slot, other: TileId, index: usize) -> Slot
     ensures { (view_slot result ≡ replaced_in other index (view_slot s)) × (over_slot result ≡ false) }
 {
     let children = s.children;
-    let kids = tiles::replace(children, index, other);
+    let kids = lists::replace(children, index, other);
     let mut r = s;
     r.children = kids;
     r

@@ -10,7 +10,7 @@ use Rattle.rules.specs.Numbers.{zero-f, minimum_ok, share_ok}
 use Rattle.rules.specs.Lists.{all_of}
 use Rattle.rules.specs.Tree.{reals, Member}
 use Rattle.rules.specs.Solver.{solver_ok, solve_by, solve}
-use Rattle.rules.specs.declared.model.Reals.{Reals}
+use Rattle.rules.specs.Tree.{Reals}
 use Rattle.forest.specs.Lists.{never}
 use Rattle.promises.specs.Words.{Tells, number_of, one_number, both_ways, and-iff, and-means, all-means, not-means}
 use Rattle.promises.specs.SolveExact.{SolverInput, Given}

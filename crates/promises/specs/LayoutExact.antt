@@ -11,7 +11,7 @@ use Rattle.rules.specs.Sound.{sound}
 use Rattle.rules.specs.Frame.{limit, minus-limit, coordinate_ok, thickness_ok, bounds_ok, input_ok, layout_input_by, layout_by, layout}
 use Rattle.rules.specs.declared.frame.Rect.{Rect}
 use Rattle.rules.specs.declared.frame.LayoutInput.{LayoutInput}
-use Rattle.rules.specs.declared.refusal.Answer.{Answer}
+use Rattle.rules.specs.Refusals.{Answer}
 use Rattle.forest.specs.Lists.{never}
 use Rattle.promises.specs.Words.{Tells, number_of, one_number, both_ways, pair-iff, and-iff, and-means, not-means}
 

@@ -1,5 +1,6 @@
 -- When `repair` refuses: with 3 exactly when a list was given longer than 16 or is so after repair, with 2 exactly when nothing is kept and no slot was empty;
 -- and with no other number. And what `is_sound` says, in document 01's words ('The arena'). Assumes nothing.
+use Rattle.std.specs.Prelude.{Ok, Err}
 use Rattle.std.specs.Prelude.{◌≡◌, ◌↔◌, ◌⊎◌, Bool, ◌&&◌, ◌||◌, List, [], ◌∷◌, ℕ}
 use Rattle.std.proofs.Math.Path.{refl}
 use Rattle.std.proofs.Common.{sym, ap, subst, ◌∙◌, arith}
@@ -12,8 +13,8 @@ use Rattle.rules.specs.Repair.{Work, Normal, rooted, begin, normalize_node, norm
 use Rattle.rules.specs.Sound.{is_accepted, is_none, untouched, lone_empty_root, sound}
 use Rattle.rules.specs.declared.model.TileId.{TileId}
 use Rattle.rules.specs.declared.model.RepairAction.{RepairAction}
-use Rattle.rules.specs.declared.refusal.Answer.{Answer}
-use Rattle.rules.specs.declared.refusal.Answer.TheVariants.{Accepted, Refused}
+use Rattle.rules.specs.Refusals.{Answer}
+use Rattle.rules.specs.Refusals.{Accepted, Refused}
 use Rattle.forest.specs.Lists.{never}
 use Rattle.promises.specs.Words.{Tells, number_of, one_number, both_ways, and-means}
 use Rattle.forest.specs.Bools.{true-right}
@@ -129,8 +130,8 @@ module _ (a : Arena) where
   -- ---- soundness: the repair is accepted, lists no action and returns an equal tree; or the root alone is occupied, an empty Hidden group with active 0
 
   accepted-means : (x : Answer) → (is_accepted x ≡ true) ↔ (x ≡ Accepted)
-  accepted-means Accepted = (λ e. refl, λ e. refl)
-  accepted-means (Refused r) = (λ e. never (sym e), λ e. ap is_accepted e)
+  accepted-means (Ok _) = (λ e. refl, λ e. refl)
+  accepted-means (Err r) = (λ e. never (sym e), λ e. ap is_accepted e)
 
   none-means : (l : List RepairAction) → (is_none l ≡ true) ↔ (l ≡ [])
   none-means [] = (λ e. refl, λ e. refl)

@@ -5,7 +5,7 @@ use Rattle.std.specs.Float.Ieee.{lt, le}
 use Rattle.std.specs.Float.Ieee.Scale.{finite}
 use Rattle.rules.specs.Numbers.{zero-f}
 use Rattle.rules.specs.Tree.{reals}
-use Rattle.rules.specs.declared.model.Reals.{Reals}
+use Rattle.rules.specs.Tree.{Reals}
 use Rattle.forest.specs.Lists.{All}
 
 -- ---- the input's words

@@ -8,7 +8,7 @@ use Rattle.rules.specs.Sound.{sound}
 use Rattle.rules.specs.Operations.{Applied, apply, apply_inner, unchanged}
 use Rattle.rules.specs.declared.model.TileTree.{TileTree}
 use Rattle.rules.specs.declared.operation.TileOp.{TileOp}
-use Rattle.rules.specs.declared.refusal.Answer.TheVariants.{Refused}
+use Rattle.rules.specs.Refusals.{Refused}
 use Rattle.rules.specs.declared.refusal.Refusal.{Refusal}
 use Rattle.columns.specs.Pack.{reported}
 use Rattle.repair.specs.Whole.{repaired, Repairs}

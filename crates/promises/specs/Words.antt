@@ -3,7 +3,7 @@ use Rattle.std.specs.Prelude.{◌≡◌, refl, ◌↔◌, Bool, true, false, ◌
 use Rattle.std.proofs.Common.{sym, ap, ◌∙◌}
 use Rattle.rules.specs.Lists.{all_of}
 use Rattle.rules.specs.Refusals.{Told, told, answer_of}
-use Rattle.rules.specs.declared.refusal.Answer.{Answer}
+use Rattle.rules.specs.Refusals.{Answer}
 use Rattle.forest.specs.Lists.{All, never}
 
 -- the answer has this number and these details

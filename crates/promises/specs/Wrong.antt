@@ -13,7 +13,7 @@ use Rattle.rules.specs.Sound.{is_accepted, is_none, sound}
 use Rattle.rules.specs.Target.{locate, seek_parent, panes_along, validate_target}
 use Rattle.rules.specs.Insert.{insert_tile_near}
 use Rattle.rules.specs.Operations.{Applied, apply_inner, apply}
-use Rattle.rules.specs.declared.model.Reals.{Reals}
+use Rattle.rules.specs.Tree.{Reals}
 use Rattle.rules.specs.declared.model.Axis.TheVariants.{Horizontal}
 use Rattle.rules.specs.declared.model.Placement.TheVariants.{Before}
 use Rattle.rules.specs.declared.model.Kind.{Kind}
@@ -22,8 +22,8 @@ use Rattle.rules.specs.declared.model.Slot.{Slot}
 use Rattle.rules.specs.declared.model.TileTree.{TileTree}
 use Rattle.rules.specs.declared.operation.TileOp.{TileOp}
 use Rattle.rules.specs.declared.operation.TileOp.TheVariants.{ActivatePane, SplitPane}
-use Rattle.rules.specs.declared.refusal.Answer.{Answer}
-use Rattle.rules.specs.declared.refusal.Answer.TheVariants.{Accepted, Refused}
+use Rattle.rules.specs.Refusals.{Answer}
+use Rattle.rules.specs.Refusals.{Accepted, Refused}
 use Rattle.rules.specs.declared.refusal.Refusal.{Refusal}
 use Rattle.forest.specs.Lists.{never}
 

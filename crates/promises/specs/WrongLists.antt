@@ -15,11 +15,11 @@ use Rattle.rules.specs.Sound.{sound}
 use Rattle.rules.specs.Table.{little_endian, chunks, section, row_of, rows_of, sum_rows, preorder, read_table}
 use Rattle.rules.specs.Spec.{Built, duplicate, validate, push_children, push_spec, from_spec}
 use Rattle.rules.specs.Frame.{Frame, Laid, input_ok, plus_input, tabs_from, layout_tabs, layout_kids, layout_split, layout_tile, gather, layout}
-use Rattle.rules.specs.declared.model.Reals.{Reals}
+use Rattle.rules.specs.Tree.{Reals}
 use Rattle.rules.specs.declared.model.Kind.TheVariants.{Empty}
 use Rattle.rules.specs.declared.model.TileTree.{TileTree}
 use Rattle.rules.specs.declared.frame.LayoutInput.{LayoutInput}
-use Rattle.rules.specs.declared.refusal.Answer.TheVariants.{Accepted, Refused}
+use Rattle.rules.specs.Refusals.{Accepted, Refused}
 use Rattle.rules.specs.declared.refusal.Refusal.{Refusal}
 use Rattle.forest.specs.Lists.{never}
 use Rattle.promises.specs.Wrong.{two, tree, no-refusal}

@@ -1,4 +1,5 @@
 -- Laws of a repair by value: the columns of the tree given were repaired, and packed. Assumes nothing.
+use Rattle.std.specs.Prelude.{Ok, Err}
 use mathlib.Core.Path.{◌≡◌, refl, sym, ap, ◌∙◌}
 use mathlib.Core.List.{List, map}
 use Prim.Native.Nat.{ℕ}
@@ -8,8 +9,8 @@ use Rattle.rules.specs.Tree.{Arena, tile, view_slot, over_slot, view}
 use Rattle.rules.specs.Repair.{Repaired, repair}
 use Rattle.rules.specs.declared.model.TileTree.{TileTree}
 use Rattle.rules.specs.declared.model.RepairAction.{RepairAction}
-use Rattle.rules.specs.declared.refusal.Answer.{Answer}
-use Rattle.rules.specs.declared.refusal.Answer.TheVariants.{Accepted, Refused}
+use Rattle.rules.specs.Refusals.{Answer}
+use Rattle.rules.specs.Refusals.{Accepted, Refused}
 use Rattle.rules.specs.declared.refusal.Refusal.{Refusal}
 use Rattle.columns.specs.Columns.{nodes_from, Lists}
 use Rattle.columns.specs.Pack.{over_of, reported}
@@ -47,10 +48,10 @@ module _ (t : TileTree) (hs xs : List (List ℕ)) (ss ms : List (List Float)) (a
   packed-is a x e C = go s.answer refl
     where
       go : (b : Answer) → s.answer ≡ b → repaired r ≡ x
-      go Accepted q =
+      go (Ok _) q =
           let revised = Q.tree q ∙ ap (λ (v : ℕ). arena_from s.root v hs xs ss ms) (sym (ap (λ (y : Arena). y.revision) e)) in
           λ z. record { answer = (Q.answer ∙ C.answer) z; tree = (revised ∙ sym (C.tree q)) z; actions = Q.actions q x.actions C.actions z }
-      go (Refused f) q =
+      go (Err f) q =
           let (tree, none) = Q.given f q in
           λ z. record { answer = (Q.answer ∙ C.answer) z; tree = (ap view tree ∙ sym e ∙ sym (C.given f q).0) z; actions = (none ∙ sym (C.given f q).1) z }
 

@@ -4,7 +4,7 @@ use Rattle.rules.specs.Tree.{view}
 use Rattle.rules.specs.Repair.{Repaired, repair}
 use Rattle.rules.specs.declared.model.TileTree.{TileTree}
 use Rattle.rules.specs.declared.model.RepairAction.{RepairAction}
-use Rattle.rules.specs.declared.refusal.Answer.TheVariants.{Accepted, Refused}
+use Rattle.rules.specs.Refusals.{Accepted, Refused}
 use Rattle.rules.specs.declared.refusal.Refusal.{Refusal}
 use Rattle.columns.specs.Columns.{Lists}
 use Rattle.columns.specs.Pack.{reported}

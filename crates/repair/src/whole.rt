@@ -4,7 +4,7 @@ ghost use Rattle.rules.specs.Tree.{view};
 ghost use Rattle.rules.specs.Repair as Rule;
 ghost use Rattle.rules.specs.Sound.{sound};
 ghost use Rattle.forest.specs.Still.{is_still};
-ghost use Rattle.rules.specs.declared.refusal.Answer.TheVariants as Answers;
+ghost use Rattle.rules.specs.Refusals as Answers;
 ghost use Rattle.columns.specs.Shown.{arena_from, Plain};
 ghost use Rattle.repair.specs.Whole.{repaired, Returns, Packs};
 ghost use Rattle.settling.specs.Settle.{Left};
@@ -21,7 +21,7 @@ fn refused(t: TileTree, e: Refusal) -> Repairing
 {
     let actions = listing::no_report();
     Repairing {
-        answer: Answer::Refused(e),
+        answer: Err(e),
         tree: t,
         actions,
     }
@@ -42,7 +42,7 @@ fn packed(
 {
     let answer = s.answer;
     match answer {
-        Answer::Accepted => {
+        Ok(()) => {
             let slots = pack::pack(heads, ids, shares, minima);
             let actions = listing::report(acts, s.count);
             let root = TileId { slot: s.root };
@@ -52,12 +52,12 @@ fn packed(
                 slots,
             };
             Repairing {
-                answer: Answer::Accepted,
+                answer: Ok(()),
                 tree,
                 actions,
             }
         }
-        Answer::Refused(e) => refused(t, e),
+        Err(e) => refused(t, e),
     }
 }
 

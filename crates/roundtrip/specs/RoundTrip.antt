@@ -13,7 +13,7 @@ use Rattle.rules.specs.Target.{panes_in}
 use Rattle.rules.specs.Table.{Table}
 use Rattle.rules.specs.Spec.{Left, left_of, validate, Build, build, Children, push_children, push_spec, padded, built_nodes, Built, built_by, built_as, built_from, validated, narrow, within, tabled, from_spec}
 use Rattle.rules.specs.declared.model.TileId.{TileId}
-use Rattle.rules.specs.declared.refusal.Answer.TheVariants.{Accepted}
+use Rattle.rules.specs.Refusals.{Accepted}
 use Rattle.rules.specs.declared.refusal.Refusal.{Refusal}
 use Rattle.forest.specs.Lists.{All, Distinct}
 use Rattle.forest.specs.Forest.{Forest, nil, leaf, node, tiles, shown, Holds}

@@ -15,7 +15,7 @@ use Rattle.rules.specs.Target.{panes_in}
 use Rattle.rules.specs.Table.{Row, panes_used, shares_used, minima_used, children_used, sum_rows, preorder, read_table}
 use Rattle.rules.specs.Spec.{from_spec}
 use Rattle.rules.specs.declared.model.TileId.{TileId}
-use Rattle.rules.specs.declared.refusal.Answer.TheVariants.{Accepted}
+use Rattle.rules.specs.Refusals.{Accepted}
 use Rattle.forest.specs.Lists.{All, all_append}
 use Rattle.forest.specs.Codec.{long-children}
 use Rattle.forest.specs.Forest.{Forest, nil, leaf, node, roots, Leafy, Holds}

@@ -19,14 +19,13 @@ use Rattle.rules.specs.declared.model.Placement.{Placement}
 use Rattle.rules.specs.declared.model.Placement.TheVariants.{After}
 use Rattle.rules.specs.declared.model.TabBarPlacement.{TabBarPlacement}
 use Rattle.rules.specs.declared.model.TabBarPlacement.TheVariants.{Top}
-use Rattle.rules.specs.declared.operation.TabIndex.{TabIndex}
-use Rattle.rules.specs.declared.operation.TabIndex.TheVariants.{End, At}
+use Rattle.std.specs.Prelude as Std
 use Rattle.rules.specs.declared.operation.DockTarget.{DockTarget}
 use Rattle.rules.specs.declared.operation.DockTarget.TheVariants.{Root, Split, TabInto}
 use Rattle.rules.specs.declared.operation.TileOp.{TileOp}
 use Rattle.rules.specs.declared.operation.TileOp.TheVariants.{ActivatePane, ClosePane, SplitPane, MovePane, ReorderTab}
-use Rattle.rules.specs.declared.refusal.Answer.{Answer}
-use Rattle.rules.specs.declared.refusal.Answer.TheVariants.{Accepted, Refused}
+use Rattle.rules.specs.Refusals.{Answer}
+use Rattle.rules.specs.Refusals.{Accepted, Refused}
 use Rattle.rules.specs.declared.refusal.Refusal.{Refusal}
 use Rattle.rules.specs.declared.refusal.Refusal.TheVariants.{ArenaFull, TooWide, NotSound, InvalidTileId, InvalidPaneId, InvalidOperation, DuplicatePane, RevisionExhausted}
 
@@ -134,9 +133,12 @@ split_pane a q x new p s = split_by (is_valid_split_fraction s) a q x new p s
 -- ---- move: the pane is taken out, then put in
 
 -- an index counts after the taking out, and is clamped
+abbrev pub TabIndex : Type 0
+TabIndex = Std.Option ℕ
+
 abbrev pub clamped : TabIndex → ℕ → ℕ
-clamped End n = n
-clamped (At i) n = min i n
+clamped Std.None n = n
+clamped (Std.Some i) n = min i n
 
 abbrev pub tabbed_in : ℕ → TabIndex → Node → Node
 tabbed_in p i empty = empty

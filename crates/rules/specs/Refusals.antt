@@ -1,8 +1,6 @@
 -- Document 01's table of refusals: the number and the two detail numbers of every case, zero unless named. An accepted answer has number 0.
 -- Definitions only.
-use Rattle.std.specs.Prelude.{ℕ}
-use Rattle.rules.specs.declared.refusal.Answer.{Answer}
-use Rattle.rules.specs.declared.refusal.Answer.TheVariants.{Accepted, Refused}
+use Rattle.std.specs.Prelude.{ℕ, Result, Ok, Err, ⊤}
 use Rattle.rules.specs.declared.refusal.Refusal.{Refusal}
 use Rattle.rules.specs.declared.refusal.Refusal.TheVariants.{BadTable, ArenaFull, TooWide, NotSound, BadInput, InvalidTileId, InvalidPaneId, InvalidTarget, InvalidOperation, DuplicatePane, RevisionExhausted, EmptyTabs, TooFewSplitChildren, ShareCountMismatch, InvalidShare, TooManySplitConstraints, InvalidSplitConstraint, InvalidActiveTab}
 
@@ -35,6 +33,16 @@ refusal_of (TooManySplitConstraints n m) = told 16 n m
 refusal_of (InvalidSplitConstraint i) = told 17 i 0
 refusal_of (InvalidActiveTab a n) = told 18 a n
 
+-- an answer, and its two cases by their names here
+abbrev pub Answer : Type 0
+Answer = Result ⊤ Refusal
+
+abbrev pub Accepted : Answer
+Accepted = Ok tt
+
+abbrev pub Refused : Refusal → Answer
+Refused e = Err e
+
 abbrev pub answer_of : Answer → Told
-answer_of Accepted = told 0 0 0
-answer_of (Refused e) = refusal_of e
+answer_of (Ok _) = told 0 0 0
+answer_of (Err e) = refusal_of e

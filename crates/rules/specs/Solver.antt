@@ -9,11 +9,11 @@ use Rattle.std.specs.Float.Ieee.{add, sub, mul, div, lt, le, eq}
 use Rattle.rules.specs.Numbers.{zero-f, whole, larger, plus, minimum_ok, share_ok}
 use Rattle.rules.specs.Lists.{all_of}
 use Rattle.rules.specs.Tree.{reals}
-use Rattle.rules.specs.declared.model.Reals.{Reals}
+use Rattle.rules.specs.Tree.{Reals}
 use Rattle.rules.specs.declared.solving.Kid.{Kid}
 use Rattle.rules.specs.declared.solving.Solution.{Solution}
-use Rattle.rules.specs.declared.refusal.Answer.{Answer}
-use Rattle.rules.specs.declared.refusal.Answer.TheVariants.{Accepted, Refused}
+use Rattle.rules.specs.Refusals.{Answer}
+use Rattle.rules.specs.Refusals.{Accepted, Refused}
 use Rattle.rules.specs.declared.refusal.Refusal.TheVariants.{BadInput}
 
 -- ---- sums and parts

@@ -1,16 +1,15 @@
 -- Soundness, exactly as document 01 has it ('The arena'): the arena's repair is accepted, lists no action and returns an equal tree;
 -- or its only occupied slot is the root, an empty Hidden group with active 0.
 -- Definitions only.
-use Rattle.std.specs.Prelude.{Bool, true, false, ◌&&◌, ◌||◌, List, [], ◌∷◌}
+use Rattle.std.specs.Prelude.{Bool, true, false, ◌&&◌, ◌||◌, List, [], ◌∷◌, Ok, Err}
 use Rattle.rules.specs.Lists.{all_of}
 use Rattle.rules.specs.Tree.{Arena, node_at, clear_node, is_empty, same_node, same_tree, empty_group}
 use Rattle.rules.specs.Repair.{Repaired, repair}
-use Rattle.rules.specs.declared.refusal.Answer.{Answer}
-use Rattle.rules.specs.declared.refusal.Answer.TheVariants.{Accepted, Refused}
+use Rattle.rules.specs.Refusals.{Answer}
 
 abbrev pub is_accepted : Answer → Bool
-is_accepted Accepted = true
-is_accepted (Refused e) = false
+is_accepted (Ok _) = true
+is_accepted (Err e) = false
 
 abbrev pub is_none : {A : Type 0} → List A → Bool
 is_none [] = true

@@ -11,8 +11,8 @@ use Rattle.rules.specs.Tree.{Node, empty, pane, tabs, split, Arena, arena, tile,
 use Rattle.rules.specs.Repair.{Normal, normalize}
 use Rattle.rules.specs.Table.{Row, pane_row, tabs_row, split_row, panes_used, shares_used, minima_used, Table, read_table}
 use Rattle.rules.specs.declared.model.TileId.{TileId}
-use Rattle.rules.specs.declared.refusal.Answer.{Answer}
-use Rattle.rules.specs.declared.refusal.Answer.TheVariants.{Accepted, Refused}
+use Rattle.rules.specs.Refusals.{Answer}
+use Rattle.rules.specs.Refusals.{Accepted, Refused}
 use Rattle.rules.specs.declared.refusal.Refusal.{Refusal}
 use Rattle.rules.specs.declared.refusal.Refusal.TheVariants.{BadTable, ArenaFull, TooWide, DuplicatePane, EmptyTabs, TooFewSplitChildren, ShareCountMismatch, InvalidShare, TooManySplitConstraints, InvalidSplitConstraint, InvalidActiveTab}
 

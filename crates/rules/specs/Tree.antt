@@ -5,9 +5,7 @@ use Rattle.std.specs.Prelude.{Bool, true, false, not, ◌&&◌, ◌||◌, ◌≡
 use Rattle.rules.specs.Numbers.{same_real}
 use Rattle.rules.specs.Lists.{any_of, same_list, wide_list}
 use Rattle.rules.specs.declared.model.TileId.{TileId}
-use Rattle.rules.specs.declared.model.Ids.{Ids}
-use Rattle.rules.specs.declared.model.Tiles.{Tiles}
-use Rattle.rules.specs.declared.model.Reals.{Reals}
+use Rattle.rules.specs.declared.model.Sixteen.{Sixteen}
 use Rattle.rules.specs.declared.model.Axis.{Axis}
 use Rattle.rules.specs.declared.model.Axis.TheVariants.{Horizontal, Vertical}
 use Rattle.rules.specs.declared.model.TabBarPlacement.{TabBarPlacement}
@@ -40,6 +38,20 @@ abbrev pub tile : ℕ → TileId
 tile n = record { slot = n }
 
 -- ---- a TileTree as an arena: places past a list's length, and lists that a kind doesn't use, are passed over
+
+-- the three lists of 16 that a slot holds: the Rust's Vec<PaneId>, Vec<TileId> and Vec<f64>
+abbrev pub Ids : Type 0
+Ids = Sixteen ℕ
+
+abbrev pub Tiles : Type 0
+Tiles = Sixteen TileId
+
+abbrev pub Reals : Type 0
+Reals = Sixteen Float
+
+-- the entries in use of any of them
+abbrev pub listed : {A : Type 0} → Sixteen A → List A
+listed l = take l.len l.at
 
 abbrev pub ids : Ids → List ℕ
 ids l = take l.len l.at

@@ -64,7 +64,7 @@ pub struct SplitHandleFrame {
     pub rect: Rect,
 }
 
-#[derive(Clone, Copy)]
+#[derive(Clone, Copy, PartialEq, Eq)]
 pub enum FrameItemId {
     Pane(u64),
     TabBar(TileId),

@@ -1,45 +1,39 @@
 // The tree: an arena of 64 slots. The Rust's ids.rs and model.rs; document 01, 'The arena'.
 
 // A tile's name. A struct from the start, so that it can grow a second number (request W-207).
-#[derive(Clone, Copy)]
+#[derive(Clone, Copy, PartialEq, Eq)]
 pub struct TileId {
     pub slot: u64,
 }
 
-// Growing lists of the Rust: lists of 16 with a length. A length over 16 may come in.
+// A growing list of the Rust: 16 places, of which the first `len` are in use. A length over 16 may come in.
 #[derive(Clone, Copy)]
-pub struct Ids {
-    pub at: [u64; 16],
+pub struct Sixteen<T> {
+    pub at: [T; 16],
     pub len: usize,
 }
 
-#[derive(Clone, Copy)]
-pub struct Tiles {
-    pub at: [TileId; 16],
-    pub len: usize,
-}
+pub type Ids = Sixteen<u64>;
 
-#[derive(Clone, Copy)]
-pub struct Reals {
-    pub at: [f64; 16],
-    pub len: usize,
-}
+pub type Tiles = Sixteen<TileId>;
+
+pub type Reals = Sixteen<f64>;
 
 // Horizontal: children side by side, from left to right.
-#[derive(Clone, Copy)]
+#[derive(Clone, Copy, PartialEq, Eq)]
 pub enum Axis {
     Horizontal,
     Vertical,
 }
 
 // On which side of a tile another is put.
-#[derive(Clone, Copy)]
+#[derive(Clone, Copy, PartialEq, Eq)]
 pub enum Placement {
     Before,
     After,
 }
 
-#[derive(Clone, Copy)]
+#[derive(Clone, Copy, PartialEq, Eq)]
 pub enum TabBarPlacement {
     Hidden,
     Top,
@@ -76,7 +70,7 @@ pub struct TileTree {
 }
 
 // One repair performed (the Rust's snapshot.rs).
-#[derive(Clone, Copy)]
+#[derive(Clone, Copy, PartialEq, Eq)]
 pub enum RepairAction {
     RemovedInvalidNode(TileId),
     RepairedActiveTab(TileId),

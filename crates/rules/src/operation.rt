@@ -1,13 +1,6 @@
 // What a host asks of a tree: the Rust's ops.rs; document 01, 'Operations'.
 use crate::model::{Axis, Placement, TileId};
 
-// The Rust's Option<usize>: a place in a group, or its end.
-#[derive(Clone, Copy)]
-pub enum TabIndex {
-    End,
-    At(usize),
-}
-
 // Where a moved pane goes. The one beside a tile carries its own split ratio.
 #[derive(Clone, Copy)]
 pub enum DockTarget {
@@ -18,9 +11,10 @@ pub enum DockTarget {
         placement: Placement,
         ratio: f64,
     },
+    // At a place in the group, or at its end.
     TabInto {
         group: TileId,
-        index: TabIndex,
+        index: Option<usize>,
     },
 }
 

@@ -1,6 +1,6 @@
 // Document 01's refusals, with their details as data: the Rust's TileError and TileSpecError, and document 01's own.
 // specs/Refusals.antt gives each its number and its two detail numbers.
-#[derive(Clone, Copy)]
+#[derive(Clone, Copy, PartialEq, Eq)]
 pub enum Refusal {
     BadTable,
     ArenaFull,
@@ -23,8 +23,4 @@ pub enum Refusal {
 }
 
 // What a call answers beside the values that it hands back.
-#[derive(Clone, Copy)]
-pub enum Answer {
-    Accepted,
-    Refused(Refusal),
-}
+pub type Answer = Result<(), Refusal>;

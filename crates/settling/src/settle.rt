@@ -16,7 +16,7 @@ fn refused(e: Refusal) -> Settled
     ensures { Refuses e result }
 {
     Settled {
-        answer: Answer::Refused(e),
+        answer: Err(e),
         root: 0,
         count: 0,
     }
@@ -35,7 +35,7 @@ fn finish(
 {
     let count = sweep::sweep(heads, claimed, acts, n);
     Settled {
-        answer: Answer::Accepted,
+        answer: Ok(()),
         root,
         count,
     }

@@ -14,7 +14,7 @@ use Rattle.rules.specs.Lists.{contains, position}
 use Rattle.rules.specs.Tree.{Node, empty, pane, tabs, tile}
 use Rattle.rules.specs.Repair.{State, Work, Out, claim, pane_by, Sifted, sifted, sift_by, sift_pane, retain, or_first, active_of, group_done, group_left, group_step, by_node, normalize_node}
 use Rattle.rules.specs.declared.model.TileId.{TileId}
-use Rattle.rules.specs.declared.model.Ids.{Ids}
+use Rattle.rules.specs.Tree.{Ids}
 use Rattle.rules.specs.declared.model.TabBarPlacement.{TabBarPlacement}
 use Rattle.rules.specs.declared.model.RepairAction.TheVariants.{RemovedInvalidNode, RepairedActiveTab, RemovedDuplicatePane}
 use Rattle.forest.specs.Lists.{free, free-set}
@@ -23,7 +23,7 @@ use Rattle.forest.specs.Again.{tile-by, element-at, element-past}
 use Rattle.lists.specs.Exact.{IsIds, Pushed}
 use Rattle.lists.specs.Build.{exactly-push}
 use Rattle.lists.specs.Find.{place_of}
-use Rattle.lists.specs.declared.Place.{Place}
+use Rattle.std.specs.Prelude as Std
 use Rattle.sifting.specs.Work.{Cols, cols, nodes_in, Sized, Shows}
 use Rattle.columns.specs.Columns.{Slim, bar_from, node_by, node_from, nodes_from, Lists, Noted}
 use Rattle.sifting.specs.Walked.{Answers, reserve, Walked}
@@ -39,7 +39,7 @@ use Rattle.columns.specs.ColumnLaws.{nodes-at, nodes-head, nodes-row, slim-set}
 pub active_past : (len active : ℕ) (at kept : List ℕ) → len ≤ active → 0 ≡ active_of (get_elem? (take len at) active) kept
 active_past len active at kept h = sym (ap (λ (o : Option ℕ). active_of o kept) (element-past (take len at) active (omega (arith, length-take len at))))
 
-pub active-at : (len active : ℕ) (at kept : List ℕ) (x : ℕ) (p : Place) → len ≤ length at → active < len → x ≡ get_or (take len at) active 0
+pub active-at : (len active : ℕ) (at kept : List ℕ) (x : ℕ) (p : Std.Option ℕ) → len ≤ length at → active < len → x ≡ get_or (take len at) active 0
     → place_of p ≡ position (eqb x) kept → or_first (place_of p) ≡ active_of (get_elem? (take len at) active) kept
 active-at len active at kept x p l h e q =
     ap or_first q ∙ ap (λ (y : ℕ). or_first (position (eqb y) kept)) e

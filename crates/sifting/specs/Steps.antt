@@ -2,7 +2,7 @@
 use Rattle.std.specs.Prelude.{◌≡◌, Bool, true, false, List, [], ℕ, ◌+◌, ◌*◌, ◌≤◌, ◌<◌, length, get_or, take, Float}
 use Rattle.rules.specs.Tree.{tile}
 use Rattle.rules.specs.Repair.{Work, Sifted, sifted, sift_pane, retain}
-use Rattle.rules.specs.declared.model.Ids.{Ids}
+use Rattle.rules.specs.Tree.{Ids}
 use Rattle.rules.specs.declared.model.RepairAction.TheVariants.{RemovedInvalidNode}
 use Rattle.lists.specs.Exact.{IsIds}
 use Rattle.forest.specs.Lists.{free}

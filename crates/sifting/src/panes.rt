@@ -7,7 +7,6 @@ ghost use Rattle.rules.specs.Tree as Tree;
 ghost use Rattle.sifting.specs.Steps.{Sifts, Retains};
 
 use crate::Counts;
-use lists::ids;
 use noting::actions;
 use rules::model::Ids;
 
@@ -75,7 +74,7 @@ fn keep_pane(seen: &mut [u64; 1024], acts: &mut [[u64; 3]], s: Sift, id: u64, pa
     }
     let n = see(seen, c.seen, pane);
     let old = s.list;
-    let list = ids::push(old, pane);
+    let list = lists::push(old, pane);
     Sift {
         list,
         counts: Counts {
@@ -93,7 +92,7 @@ pub fn retain(seen: &mut [u64; 1024], acts: &mut [[u64; 3]], c: Counts, id: u64,
     let at = panes.at;
     let n = panes.len;
     let mut s = Sift {
-        list: ids::empty(),
+        list: lists::empty(),
         counts: c,
     };
     let mut j = 0usize;
@@ -113,10 +112,10 @@ pub fn active_of(panes: Ids, active: usize, kept: Ids) -> usize
     if panes.len <= active {
         return 0;
     }
-    let pane = ids::get(panes, active, 0);
-    let place = ids::position(kept, pane);
+    let pane = lists::get(panes, active, 0);
+    let place = lists::position(kept, pane);
     match place {
-        lists::Place::At(i) => i,
-        lists::Place::Nothing => 0,
+        Some(i) => i,
+        None => 0,
     }
 }

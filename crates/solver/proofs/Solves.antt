@@ -16,10 +16,10 @@ use Rattle.rules.specs.Lists.{all_of}
 use Rattle.rules.specs.Tree.{reals}
 use Rattle.rules.specs.Solver.{sum_of, part, start, run, Lengths, still, sizes, sized, tight, loose, solver_ok, solve_lengths_with_min, solve_by, solved, view_solution}
 use Rattle.rules.specs.Solver as Rules
-use Rattle.rules.specs.declared.model.Reals.{Reals}
+use Rattle.rules.specs.Tree.{Reals}
 use Rattle.rules.specs.declared.solving.Kid.{Kid}
-use Rattle.rules.specs.declared.refusal.Answer.{Answer}
-use Rattle.rules.specs.declared.refusal.Answer.TheVariants.{Accepted, Refused}
+use Rattle.rules.specs.Refusals.{Answer}
+use Rattle.rules.specs.Refusals.{Accepted, Refused}
 use Rattle.rules.specs.declared.refusal.Refusal.{Refusal}
 use Rattle.rules.specs.declared.refusal.Refusal.TheVariants.{BadInput}
 use Rattle.solver.specs.Loop.{all_fixed, begun, start-length, start-begins}

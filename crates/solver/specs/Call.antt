@@ -16,9 +16,9 @@ use Rattle.rules.specs.Lists.{all_of}
 use Rattle.rules.specs.Tree.{reals}
 use Rattle.rules.specs.Solver.{Lengths, solver_ok, solve_by, view_solution}
 use Rattle.rules.specs.Solver as Rules
-use Rattle.rules.specs.declared.model.Reals.{Reals}
+use Rattle.rules.specs.Tree.{Reals}
 use Rattle.rules.specs.declared.solving.Solution.{Solution}
-use Rattle.rules.specs.declared.refusal.Answer.TheVariants.{Accepted, Refused}
+use Rattle.rules.specs.Refusals.{Accepted, Refused}
 use Rattle.rules.specs.declared.refusal.Refusal.{Refusal}
 use Rattle.rules.specs.declared.refusal.Refusal.TheVariants.{BadInput}
 use Rattle.number.specs.Each.{All, none, more, all_take}

@@ -115,7 +115,7 @@ pub fn solve_lengths_with_min(total: f64, shares: Reals, minima: Reals) -> Solve
 fn refused() -> SolvedInto
     ensures { result ≡ bad_into }
 {
-    let answer = Answer::Refused(Refusal::BadInput);
+    let answer = Err(Refusal::BadInput);
     SolvedInto {
         answer,
         len: 0,
@@ -154,7 +154,7 @@ pub fn solve_into(
         n,
         lengths,
     );
-    let answer = Answer::Accepted;
+    let answer = Ok(());
     SolvedInto {
         answer,
         len: n,

@@ -1,4 +1,5 @@
 -- A spec's tree is repaired as any arena is: the rules' built_from is their repair, told as a spec's answer. Assumes nothing.
+use Rattle.std.specs.Prelude.{Ok, Err}
 use Rattle.std.specs.Prelude.{◌≡◌, refl, Bool, true, false, List, [], map, ℕ, ltb, Float, length}
 use Rattle.std.proofs.Common.{sym, ap, subst, ◌∙◌}
 use Rattle.std.proofs.Math.Option.{Option, none, some}
@@ -9,8 +10,8 @@ use Rattle.rules.specs.Repair.{Normal, normalize, Repaired, repaired_as, repair}
 use Rattle.rules.specs.Repair as Rule
 use Rattle.rules.specs.Spec.{left_of, validate, Built, refused_spec, wide_row, built_by, built_as, built_from, from_spec}
 use Rattle.rules.specs.declared.model.TileTree.{TileTree}
-use Rattle.rules.specs.declared.refusal.Answer.{Answer}
-use Rattle.rules.specs.declared.refusal.Answer.TheVariants.{Accepted, Refused}
+use Rattle.rules.specs.Refusals.{Answer}
+use Rattle.rules.specs.Refusals.{Accepted, Refused}
 use Rattle.rules.specs.declared.refusal.Refusal.{Refusal}
 use Rattle.columns.specs.Columns.{nodes_from}
 use Rattle.columns.specs.Pack.{over_of}
@@ -21,8 +22,8 @@ use Rattle.drafting.specs.Draft.{draft_checked, draft_narrow, draft_within, draf
 use Rattle.drafting.specs.DraftLaws.{built-refused}
 
 abbrev pub told_by : Answer → Repaired → Built
-told_by Accepted r = record { answer = Accepted; tree = r.tree }
-told_by (Refused e) r = refused_spec e
+told_by (Ok _) r = record { answer = Accepted; tree = r.tree }
+told_by (Err e) r = refused_spec e
 
 -- what a repair answered, told as a spec's answer
 abbrev pub told : Repaired → Built
@@ -72,12 +73,12 @@ draft-tree bs = tabled-tree (read_table bs)
 -- ---- from the draft and its repair to the whole
 
 told-says : (y : Answer) (x : Repaired) → y ≡ (told_by y x).answer
-told-says Accepted x = refl
-told-says (Refused e) x = refl
+told-says (Ok _) x = refl
+told-says (Err e) x = refl
 
 told-given : (y : Answer) (x : Repaired) → told_by y x ≡ refused_as y (told_by y x)
-told-given Accepted x = refl
-told-given (Refused e) x = refl
+told-given (Ok _) x = refl
+told-given (Err e) x = refl
 
 -- a tree's columns, repaired
 pub told_in : (root : ℕ) (hs xs : List (List ℕ)) (ss ms : List (List Float)) (hs' xs' : List (List ℕ)) (ss' ms' : List (List Float)) (acts : List (List ℕ)) (s : Settled)

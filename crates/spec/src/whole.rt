@@ -51,8 +51,8 @@ fn made_into(
 {
     let answer = build_into(b, heads, ids, shares, minima);
     match answer {
-        Answer::Accepted => mended(heads, ids, shares, minima),
-        Answer::Refused(_) => Rooted { answer, root: 0 },
+        Ok(()) => mended(heads, ids, shares, minima),
+        Err(_) => Rooted { answer, root: 0 },
     }
 }
 
@@ -87,8 +87,8 @@ pub fn spec_into(
     let r = made_into(b, heads, ids, shares, minima);
     let answer = r.answer;
     match answer {
-        Answer::Accepted => r,
-        Answer::Refused(_) => {
+        Ok(()) => r,
+        Err(_) => {
             lone(heads, ids, shares, minima);
             Rooted { answer, root: 0 }
         }

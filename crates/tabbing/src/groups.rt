@@ -6,9 +6,7 @@ ghost use Rattle.rules.specs.Tree.{view_slot, over_slot, panes_of};
 ghost use Rattle.rules.specs.Operations as Rule;
 ghost use Rattle.nodes.specs.Parts.{is_full, Rows, IsGroup, reordered_in};
 
-use lists::ids;
 use rules::model::{Ids, Kind, Slot};
-use rules::operation::TabIndex;
 use sifting::panes;
 
 // Whether the place is the active one.
@@ -56,17 +54,17 @@ fn lesser(a: usize, b: usize) -> usize
 }
 
 // The place where a pane goes into a group of n: the end, or an index within it.
-fn clamped(index: TabIndex, n: usize) -> usize
+fn clamped(index: Option<usize>, n: usize) -> usize
     ensures { (result ≡ Rule.clamped index n) × (result ≤ n) }
 {
     match index {
-        TabIndex::End => n,
-        TabIndex::At(i) => lesser(i, n),
+        None => n,
+        Some(i) => lesser(i, n),
     }
 }
 
 // A group with the pane put in, and active.
-pub fn tabbed_in(s: Slot, pane: u64, index: TabIndex) -> Slot
+pub fn tabbed_in(s: Slot, pane: u64, index: Option<usize>) -> Slot
     requires { (over_slot s ≡ false) × (is_full s ≡ false) × Rows s }
     ensures { (view_slot result ≡ Rule.tabbed_in pane index (view_slot s)) × (over_slot result ≡ false) }
 {
@@ -77,7 +75,7 @@ pub fn tabbed_in(s: Slot, pane: u64, index: TabIndex) -> Slot
         Kind::Pane(_) => s,
         Kind::Tabs(_) => {
             let place = clamped(index, given.len);
-            let more = ids::insert(given, place, pane);
+            let more = lists::insert(given, place, pane);
             let mut r = s;
             r.active = place;
             r.panes = more;
@@ -93,7 +91,7 @@ pub fn landing(s: Slot, from: usize, index: usize) -> usize
     ensures { (result ≡ Rule.landing from index (panes_of (view_slot s))) × (result < length (panes_of (view_slot s))) }
 {
     let given = s.panes;
-    let left = ids::remove(given, from);
+    let left = lists::remove(given, from);
     lesser(index, left.len)
 }
 
@@ -114,8 +112,8 @@ pub fn reordered(s: Slot, pane: u64, from: usize, to: usize) -> Slot
     ensures { (view_slot result ≡ reordered_in pane from to (view_slot s)) × (over_slot result ≡ false) }
 {
     let given = s.panes;
-    let left = ids::remove(given, from);
-    let moved = ids::insert(left, to, pane);
+    let left = lists::remove(given, from);
+    let moved = lists::insert(left, to, pane);
     let active = kept_active(given, s.active, moved);
     let mut r = s;
     r.active = active;

@@ -12,7 +12,7 @@ ghost use Rattle.rules.specs.Frame as Frames;
 ghost use Rattle.rules.specs.Solver.{view_solution};
 ghost use Rattle.rules.specs.Solver as Solves;
 ghost use Rattle.rules.specs.declared.refusal.Refusal.{Refusal};
-ghost use Rattle.rules.specs.declared.refusal.Answer.TheVariants as Answers;
+ghost use Rattle.rules.specs.Refusals as Answers;
 ghost use Rattle.drafting.specs.Draft.{Drafted};
 ghost use Rattle.repair.specs.Whole.{repaired};
 ghost use Rattle.docking.specs.Steps.{applied};

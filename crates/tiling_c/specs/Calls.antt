@@ -8,7 +8,7 @@ use Rattle.rules.specs.Operations.{Applied, apply}
 use Rattle.rules.specs.Frame.{layout}
 use Rattle.rules.specs.Solver.{Solved}
 use Rattle.rules.specs.declared.frame.LayoutInput.{LayoutInput}
-use Rattle.rules.specs.declared.refusal.Answer.TheVariants.{Accepted, Refused}
+use Rattle.rules.specs.Refusals.{Accepted, Refused}
 use Rattle.rules.specs.declared.refusal.Refusal.{Refusal}
 use Rattle.columns.specs.Columns.{code_of}
 use Rattle.layout.specs.Whole.{LaysOut}

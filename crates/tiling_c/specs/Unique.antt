@@ -1,5 +1,6 @@
 -- The answer is one: two runs of an export that meet its contract on the same arrays return the same number and leave the same `out`, the same lists and the same
 -- arena. Columns may differ past a list's length, where an arena is not read. `tiling_is_sound` returns what an equation says. Assumes nothing.
+use Rattle.std.specs.Prelude.{Ok, Err}
 use Rattle.std.specs.Prelude.{◌≡◌, refl, Bool, true, false, ◌&&◌, List, ℕ, Float}
 use Rattle.std.proofs.Common.{sym, ap, ◌∙◌}
 use Rattle.rules.specs.Tree.{Arena}
@@ -10,8 +11,8 @@ use Rattle.rules.specs.Frame.{layout}
 use Rattle.rules.specs.Solver.{Solved}
 use Rattle.rules.specs.Refusals.{answer_of}
 use Rattle.rules.specs.declared.frame.LayoutInput.{LayoutInput}
-use Rattle.rules.specs.declared.refusal.Answer.{Answer}
-use Rattle.rules.specs.declared.refusal.Answer.TheVariants.{Accepted, Refused}
+use Rattle.rules.specs.Refusals.{Answer}
+use Rattle.rules.specs.Refusals.{Accepted, Refused}
 use Rattle.rules.specs.declared.refusal.Refusal.{Refusal}
 use Rattle.layout.specs.Unique.{lays-out-unique}
 use Rattle.layout.specs.declared.LaidOut.{LaidOut}
@@ -28,8 +29,8 @@ holds-one a l l' x y = x.arena ∙ sym y.arena
 -- the arena after a call that stores what is accepted, and else leaves what was given
 left_one : (x : Answer) (a : Arena) (l l₁ l₂ : Lot) → (x ≡ Accepted → Holds a l₁) → ((e : Refusal) → x ≡ Refused e → l₁ ≡ l) → (x ≡ Accepted → Holds a l₂) → ((e : Refusal) → x ≡ Refused e → l₂ ≡ l)
     → lent l₁ ≡ lent l₂
-left_one Accepted a l l₁ l₂ h f g k = holds-one a l₁ l₂ (h refl) (g refl)
-left_one (Refused e) a l l₁ l₂ h f g k = ap lent (f e refl ∙ sym (k e refl))
+left_one (Ok _) a l l₁ l₂ h f g k = holds-one a l₁ l₂ (h refl) (g refl)
+left_one (Err e) a l l₁ l₂ h f g k = ap lent (f e refl ∙ sym (k e refl))
 
 -- ---- tiling_from_spec
 
@@ -106,5 +107,5 @@ solves-one x ls ls₁ ls₂ o₁ o₂ r₁ r₂ p q =
     (r, o, by x.answer refl)
   where
     by : (a : Answer) → x.answer ≡ a → ls₁ ≡ ls₂
-    by Accepted e = p.accepted e ∙ sym (q.accepted e)
-    by (Refused f) e = p.refused f e ∙ sym (q.refused f e)
+    by (Ok _) e = p.accepted e ∙ sym (q.accepted e)
+    by (Err f) e = p.refused f e ∙ sym (q.refused f e)

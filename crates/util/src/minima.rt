@@ -5,7 +5,6 @@ ghost use Rattle.rules.specs.Tree as Tree;
 ghost use Rattle.lists.specs.Exact.{IsReals};
 ghost use Rattle.util.specs.Entries.{least_at};
 
-use real_lists::reals;
 use rules::model::Reals;
 
 // A minimum as aligned_constraints keeps it; minus zero becomes zero (document 01's own).
@@ -59,7 +58,7 @@ pub fn compact_constraints(minima: Reals) -> Reals
     ensures { IsReals result (compact_constraints (Tree.reals minima)) }
 {
     let n = kept(minima);
-    reals::first(minima, n)
+    lists::first(minima, n)
 }
 
 // A child's minimum along the axis: the larger of the default and its own, where that is good.
@@ -79,7 +78,7 @@ fn least_at(minima: Reals, fallback: f64, j: usize) -> f64
     ensures { result ≡ least_at (Tree.reals minima) fallback j }
 {
     if j < minima.len {
-        return least(fallback, reals::get(minima, j, 0.0));
+        return least(fallback, lists::get(minima, j, 0.0));
     }
     number::plus_zero(fallback)
 }
@@ -106,5 +105,5 @@ pub fn split_min_major(count: usize, minima: Reals, fallback: f64) -> Reals
     if number::minimum_ok(fallback) {
         return min_major(count, minima, fallback);
     }
-    reals::repeat(count, 0.0)
+    lists::repeat(count, 0.0)
 }

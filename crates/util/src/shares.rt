@@ -6,7 +6,6 @@ ghost use Rattle.rules.specs.Shares.{fix_share, repaired_shares, eq_reals};
 ghost use Rattle.rules.specs.Tree as Tree;
 ghost use Rattle.lists.specs.Exact.{IsReals};
 
-use real_lists::reals;
 use rules::model::Reals;
 
 // A share as repaired_shares keeps it: one that is not finite or not positive becomes 1.0.
@@ -51,14 +50,14 @@ pub fn repaired_shares(count: usize, shares: Reals) -> Reals
     ensures { IsReals result (repaired_shares count (Tree.reals shares)) }
 {
     if shares.len != count {
-        return reals::repeat(count, 1.0);
+        return lists::repeat(count, 1.0);
     }
     let m = mend(shares);
     if m.valid {
         let repaired = m.repaired;
         return repaired;
     }
-    reals::repeat(count, 1.0)
+    lists::repeat(count, 1.0)
 }
 
 // is_valid_split_fraction, whose first two tests are a share's: the one place that tests a split fraction.

@@ -10,10 +10,8 @@ ghost use Rattle.lists.specs.Exact.{IsTiles};
 use answers::Told;
 use columns::pack;
 use nodes::slots;
-use real_lists::reals;
 use rules::model::{Axis, Kind, Placement, Reals, Slot, TileId, TileTree, Tiles};
 use rules::operation::{DockTarget, TileOp};
-use tile_lists::tiles;
 
 // ---- trees
 
@@ -87,14 +85,14 @@ pub fn triple(a: u64, b: u64, c: u64) -> Tiles
     ensures { result.len ≡ 3 }
 {
     let two = slots::two_tiles(TileId { slot: a }, TileId { slot: b });
-    tiles::push(two, TileId { slot: c })
+    lists::push(two, TileId { slot: c })
 }
 
 pub fn shares(a: f64, b: f64, c: f64) -> Reals
     ensures { result.len ≡ 3 }
 {
     let two = slots::two_reals(a, b);
-    reals::push(two, c)
+    lists::push(two, c)
 }
 
 // Panes 1, 2, .. side by side, each in the slot of its number, in a split in slot 0.
@@ -110,7 +108,7 @@ pub fn row(n: usize) -> TileTree
         t = with_pane(t, k, k);
     }
     let children = Tiles { at, len: n };
-    let ones = reals::repeat(n, 1.0);
+    let ones = lists::repeat(n, 1.0);
     with_split(t, 0, Axis::Horizontal, children, ones)
 }
 

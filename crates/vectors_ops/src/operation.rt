@@ -1,6 +1,6 @@
 // An operation as docs/VECTORS.md writes it. A kind that is none of the table's reads as the last.
 use rules::model::{Placement, TileId};
-use rules::operation::{DockTarget, TabIndex, TileOp};
+use rules::operation::{DockTarget, TileOp};
 use wire::{Reader, tree};
 
 fn placement(n: u64) -> Placement {
@@ -10,10 +10,10 @@ fn placement(n: u64) -> Placement {
     }
 }
 
-fn index(given: u64, n: u64) -> TabIndex {
+fn index(given: u64, n: u64) -> Option<usize> {
     match given {
-        0 => TabIndex::End,
-        _ => TabIndex::At(n as usize),
+        0 => None,
+        _ => Some(n as usize),
     }
 }
 

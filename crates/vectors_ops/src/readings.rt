@@ -5,7 +5,7 @@ use crate::cases;
 use columns::pack;
 use nodes::slots;
 use rules::model::{Axis, Kind, Placement, TabBarPlacement, TileId, TileTree};
-use rules::operation::{DockTarget, TabIndex, TileOp};
+use rules::operation::{DockTarget, TileOp};
 
 // ---- the pane's own group
 
@@ -27,7 +27,7 @@ fn own_group() -> bool {
     let group = TileId { slot: 1 };
     let target = DockTarget::TabInto {
         group,
-        index: TabIndex::End,
+        index: None,
     };
     let op = TileOp::MovePane { pane: 1, target };
     cases::gives(t, op, wanted)

@@ -8,7 +8,7 @@ ghost use Rattle.std.specs.Prelude.{◌≡◌, ◌==◌, ◌≤◌, length};
 ghost use Rattle.wire.specs.Bits.{bits_are};
 
 use answers::Told;
-use rules::model::{Ids, Reals, TileId, Tiles};
+use rules::model::{Ids, Reals, Sixteen, TileId, Tiles};
 
 // What is left to read of a body.
 #[derive(Clone, Copy)]
@@ -119,7 +119,7 @@ impl<'a> Reader<'a> {
     }
 
     // The length as it stands there, of which at most 16 entries follow.
-    fn entries<T: Entry>(&mut self) -> ([T; 16], usize)
+    fn list<T: Entry>(&mut self) -> Sixteen<T>
         ensures { length self.new.rest.now ≤ length self.old.rest.now }
     {
         let len = self.number() as usize;
@@ -127,28 +127,25 @@ impl<'a> Reader<'a> {
         for i in 0..len.min(16) {
             at[i] = T::read(self);
         }
-        (at, len)
+        Sixteen { at, len }
     }
 
     pub fn ids(&mut self) -> Ids
         ensures { length self.new.rest.now ≤ length self.old.rest.now }
     {
-        let (at, len) = self.entries();
-        Ids { at, len }
+        self.list()
     }
 
     pub fn tiles(&mut self) -> Tiles
         ensures { length self.new.rest.now ≤ length self.old.rest.now }
     {
-        let (at, len) = self.entries();
-        Tiles { at, len }
+        self.list()
     }
 
     pub fn reals(&mut self) -> Reals
         ensures { length self.new.rest.now ≤ length self.old.rest.now }
     {
-        let (at, len) = self.entries();
-        Reals { at, len }
+        self.list()
     }
 }
 

@@ -46,8 +46,8 @@ pub bad_share-requires : goal.bad_share-requires
 bad_share-requires c =
     (c.requires.0.shares, c.requires.1)
 
-pub returns-in-At : goal.returns-in-At
-returns-in-At c =
+pub returns-in-Some : goal.returns-in-Some
+returns-in-Some c =
     let at-if1 = c.if-n-lt2 in
     let at-if2 = c.if-n-ns in
     let at-bad-share = c.bad_share in
@@ -63,7 +63,7 @@ returns-in-At c =
     let ms = take nm (drop m table.minima) in
     let a = part_length table.shares s ns (let l = length-entries bytes t.shares t.share_count real in omega (arith, c.requires.1)) in
     let b = part_length table.minima m nm (let l = length-entries bytes t.minima t.minimum_count real in omega (arith, c.requires.2)) in
-    split-share n ns nm ss ms a b at-if1.false at-if2.false c.in-At.index (ap place_of (sym c.in-At.is) ∙ at-bad-share.ensures)
+    split-share n ns nm ss ms a b at-if1.false at-if2.false c.in-Some.index (ap place_of (sym c.in-Some.is) ∙ at-bad-share.ensures)
 
 pub returns-then-n-nm : goal.returns-then-n-nm
 returns-then-n-nm c =
@@ -89,8 +89,8 @@ pub bad_minimum-requires : goal.bad_minimum-requires
 bad_minimum-requires c =
     (c.requires.0.minima, c.requires.2)
 
-pub returns-in-At-bad_minimum : goal.returns-in-At-bad_minimum
-returns-in-At-bad_minimum c =
+pub returns-in-Some-bad_minimum : goal.returns-in-Some-bad_minimum
+returns-in-Some-bad_minimum c =
     let at-if1 = c.if-n-lt2 in
     let at-if2 = c.if-n-ns in
     let at-bad-share = c.bad_share in
@@ -109,7 +109,7 @@ returns-in-At-bad_minimum c =
     let a = part_length table.shares s ns (let l = length-entries bytes t.shares t.share_count real in omega (arith, c.requires.1)) in
     let b = part_length table.minima m nm (let l = length-entries bytes t.minima t.minimum_count real in omega (arith, c.requires.2)) in
     let f = ap place_of (sym c.in_default.is) ∙ at-bad-share.ensures in
-    split-minimum n ns nm ss ms a b at-if1.false at-if2.false f at-if3.false c.in-At-bad_minimum.index (ap place_of (sym c.in-At-bad_minimum.is) ∙ at-bad-minimum.ensures)
+    split-minimum n ns nm ss ms a b at-if1.false at-if2.false f at-if3.false c.in-Some-bad_minimum.index (ap place_of (sym c.in-Some-bad_minimum.is) ∙ at-bad-minimum.ensures)
 
 pub returns : goal.returns
 returns c =

@@ -35,9 +35,6 @@ layout_split-offset_bounds-children-j t c = omega (arith, (c.requires.0.slim c.a
 pub layout_split-bounds-children-j : goal.layout_split-bounds-children-j
 layout_split-bounds-children-j t c = omega (arith, (c.requires.0.slim c.args.id).0)
 
-pub layout_split-get-length-requires : goal.layout_split-get-length-requires
-layout_split-get-length-requires t c = tt
-
 pub layout_split-along_rect-room-requires : goal.layout_split-along_rect-room-requires
 layout_split-along_rect-room-requires t c = tt
 

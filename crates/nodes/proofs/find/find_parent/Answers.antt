@@ -14,11 +14,11 @@ place_in-place-requires c =
     let p = c.requires in
     (p.0, p.1, omega arith, head-whole c.args.heads.now c.loop-i.i p.2)
 
-pub returns-in-At : goal.returns-in-At
-returns-in-At c =
+pub returns-in-Some : goal.returns-in-Some
+returns-in-Some c =
     let x = c.args in
     let p = c.requires in
-    rows-holds x.heads.now x.ids.now p.0 p.1 c.loop-i.i (omega arith) x.target (place_of c.place_in-place.result) c.place_in-place.ensures _ (sym (ap place_of c.in-At.is)) c.loop-i.invariant.1
+    rows-holds x.heads.now x.ids.now p.0 p.1 c.loop-i.i (omega arith) x.target (place_of c.place_in-place.result) c.place_in-place.ensures _ (sym (ap place_of c.in-Some.is)) c.loop-i.invariant.1
 
 pub loop-i-preserved : goal.loop-i-preserved
 loop-i-preserved c =

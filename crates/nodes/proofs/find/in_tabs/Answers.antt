@@ -6,10 +6,10 @@ use Rattle.rules.specs.Target.{nowhere, tabs_have}
 use Rattle.lists.specs.Find.{place_of}
 use Rattle.nodes.proofs.find.in_tabs.Goals as goal
 
-pub returns-in-At : goal.returns-in-At
-returns-in-At c =
-    ap (λ (o : Option ℕ). tabs_have o c.args.group nowhere) (sym (ap place_of c.in-At.is) ∙ c.position-place.ensures)
+pub returns-in-Some : goal.returns-in-Some
+returns-in-Some c =
+    ap (λ (o : Option ℕ). tabs_have o c.args.group nowhere) (sym (ap place_of c.in-Some.is) ∙ c.position-place.ensures)
 
-pub returns-in-Nothing : goal.returns-in-Nothing
-returns-in-Nothing c =
-    ap (λ (o : Option ℕ). tabs_have o c.args.group nowhere) (sym (ap place_of c.in-Nothing.is) ∙ c.position-place.ensures)
+pub returns-in-None : goal.returns-in-None
+returns-in-None c =
+    ap (λ (o : Option ℕ). tabs_have o c.args.group nowhere) (sym (ap place_of c.in-None.is) ∙ c.position-place.ensures)

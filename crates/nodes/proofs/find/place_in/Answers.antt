@@ -1,4 +1,5 @@
 -- `nodes::find::place_in` searches the children of a split's row. Assumes nothing.
+use native.Mathlib.Omega.{arith}
 use mathlib.Core.Path.{◌∙◌}
 use mathlib.Core.List.{[]}
 use lib.ListN.{get_or}
@@ -7,7 +8,7 @@ use Rattle.nodes.proofs.find.place_in.Goals as goal
 
 pub position-requires : goal.position-requires
 position-requires c =
-    head_few (get_or c.args.heads.now c.args.i []) c.requires.3
+    (omega arith, head_few (get_or c.args.heads.now c.args.i []) c.requires.3)
 
 pub returns-then-h-gt2 : goal.returns-then-h-gt2
 returns-then-h-gt2 c =

@@ -1,4 +1,5 @@
 -- `nodes::take::removed_from` goes by the slot's kind. Assumes nothing.
+use native.Mathlib.Omega.{arith}
 use Rattle.rules.specs.Insert.{removed_from}
 use Rattle.rules.specs.declared.model.Kind.TheVariants.{Split}
 use Rattle.nodes.proofs.SlotLaws.{tabs-few, tabs-place, removed-is, unmoved}
@@ -8,7 +9,7 @@ use Rattle.nodes.proofs.take.removed_from.Goals as goal
 pub remove-left-requires : goal.remove-left-requires
 remove-left-requires c =
     let e = c.in-Tabs.is in
-    (tabs-place c.args.s _ e c.args.index c.requires.0, tabs-few c.args.s _ e c.requires.1)
+    (omega arith, (tabs-place c.args.s _ e c.args.index c.requires.0, tabs-few c.args.s _ e c.requires.1))
 
 pub returns-in-Tabs : goal.returns-in-Tabs
 returns-in-Tabs c =

@@ -20,11 +20,11 @@ settle-done-requires c =
     let x = c.args in
     (even-plain x.heads.now x.ids.now x.shares.now x.minima.now c.requires, c.requires.whole)
 
-pub returns-in-Accepted : goal.returns-in-Accepted
-returns-in-Accepted c =
+pub returns-in-Ok : goal.returns-in-Ok
+returns-in-Ok c =
     let x = c.args in
     let S = c.settle-done.ensures in
-    let yes = c.in-Accepted.is in
+    let yes = c.in-Ok.is in
     let lt : x.revision < last-revision = omega (arith, c.if-revision-eq18446744073709551615.false) in
     λ a s e M.
     let k = S.right (suc a.revision) M.change.free M.inside M.first in
@@ -33,11 +33,11 @@ returns-in-Accepted c =
     (suc a.revision) (ap (λ (y : Applied). y.tree) F ∙ k.tree yes) (ap suc e ∙ sym (add-one x.revision))
     (plain-even _ _ _ _ (S.left.plain yes) (S.left.whole yes))
 
-pub returns-in-Refused : goal.returns-in-Refused
-returns-in-Refused c =
+pub returns-in-Err : goal.returns-in-Err
+returns-in-Err c =
     let x = c.args in
     let S = c.settle-done.ensures in
     let lt : x.revision < last-revision = omega (arith, c.if-revision-eq18446744073709551615.false) in
     λ a s e M.
     let k = S.right (suc a.revision) M.change.free M.inside M.first in
-    comes-refused a (Rule.finish a s) c.refused-in-Refused.result _ _ _ _ _ (change-refused x.heads.now x.ids.now x.shares.now x.minima.now c.requires a s x.top x.spare M (omega (arith, lt, e)) _ (sym k.answer ∙ c.in-Refused.is)) c.refused-in-Refused.ensures.0 c.refused-in-Refused.ensures.1
+    comes-refused a (Rule.finish a s) c.refused-in-Err.result _ _ _ _ _ (change-refused x.heads.now x.ids.now x.shares.now x.minima.now c.requires a s x.top x.spare M (omega (arith, lt, e)) _ (sym k.answer ∙ c.in-Err.is)) c.refused-in-Err.ensures.0 c.refused-in-Err.ensures.1

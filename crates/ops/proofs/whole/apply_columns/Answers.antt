@@ -19,10 +19,10 @@ apply_inner-step-requires c =
 pub change-requires : goal.change-requires
 change-requires c = c.apply_inner-step.ensures.even
 
-pub returns-in-Refused : goal.returns-in-Refused
-returns-in-Refused c =
+pub returns-in-Err : goal.returns-in-Err
+returns-in-Err c =
     let x = c.args in
-    refused-ends (arena_from x.root x.revision x.heads.now x.ids.now x.shares.now x.minima.now) x.op c.refused-in-Refused.result _ _ _ _ (sym (c.sound_columns.ensures x.revision) ∙ c.if-not-sound_columns.false) _ (steps-told (arena_from x.root x.revision x.heads.now x.ids.now x.shares.now x.minima.now) (apply_inner (arena_from x.root x.revision x.heads.now x.ids.now x.shares.now x.minima.now) x.op) _ _ _ c.in-Refused.is (c.apply_inner-step.ensures.steps x.revision)) c.refused-in-Refused.ensures.0 c.refused-in-Refused.ensures.1
+    refused-ends (arena_from x.root x.revision x.heads.now x.ids.now x.shares.now x.minima.now) x.op c.refused-in-Err.result _ _ _ _ (sym (c.sound_columns.ensures x.revision) ∙ c.if-not-sound_columns.false) _ (steps-told (arena_from x.root x.revision x.heads.now x.ids.now x.shares.now x.minima.now) (apply_inner (arena_from x.root x.revision x.heads.now x.ids.now x.shares.now x.minima.now) x.op) _ _ _ c.in-Err.is (c.apply_inner-step.ensures.steps x.revision)) c.refused-in-Err.ensures.0 c.refused-in-Err.ensures.1
 
 pub returns-in-Unchanged : goal.returns-in-Unchanged
 returns-in-Unchanged c =

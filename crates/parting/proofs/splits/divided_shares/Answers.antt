@@ -17,7 +17,7 @@ pub insert-requires : goal.insert-requires
 insert-requires c =
     let n = c.replace-set.ensures.size in
     let w = index-within c.args.b.placement c.args.index c.args.shares.len c.requires.0 in
-    (subst (λ (k : ℕ). k ≤ c.replace-set.result.len) (sym c.insert_index-place.ensures) (omega (arith, w, n)), omega (arith, n, c.requires.1))
+    (omega arith, (subst (λ (k : ℕ). k ≤ c.replace-set.result.len) (sym c.insert_index-place.ensures) (omega (arith, w, n)), omega (arith, n, c.requires.1)))
 
 pub returns : goal.returns
 unfolding of_bits

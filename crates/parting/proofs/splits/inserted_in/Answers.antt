@@ -16,7 +16,7 @@ use Rattle.parting.proofs.splits.inserted_in.Goals as goal
 
 pub insert-kids-requires : goal.insert-kids-requires
 insert-kids-requires c =
-    (subst (λ (k : ℕ). k ≤ c.args.s.children.len) (sym c.insert_index-place.ensures) (index-within c.args.b.placement c.args.index c.args.s.children.len c.requires.0), c.requires.1)
+    (omega arith, (subst (λ (k : ℕ). k ≤ c.args.s.children.len) (sym c.insert_index-place.ensures) (index-within c.args.b.placement c.args.index c.args.s.children.len c.requires.0), c.requires.1))
 
 pub divided_shares-parts-requires : goal.divided_shares-parts-requires
 divided_shares-parts-requires c =
@@ -26,7 +26,7 @@ divided_shares-parts-requires c =
 pub insert-more-requires : goal.insert-more-requires
 insert-more-requires c =
     let e = c.aligned_constraints-aligned.ensures.size ∙ aligned-length c.args.s.children.len (reals c.args.s.minima) in
-    (subst (λ (k : ℕ). k ≤ c.aligned_constraints-aligned.result.len) (sym c.insert_index-place.ensures) (omega (arith, e, index-within c.args.b.placement c.args.index c.args.s.children.len c.requires.0)), omega (arith, e, c.requires.1))
+    (omega arith, (subst (λ (k : ℕ). k ≤ c.aligned_constraints-aligned.result.len) (sym c.insert_index-place.ensures) (omega (arith, e, index-within c.args.b.placement c.args.index c.args.s.children.len c.requires.0)), omega (arith, e, c.requires.1)))
 
 pub returns : goal.returns
 unfolding of_bits

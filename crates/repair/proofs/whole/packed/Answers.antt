@@ -5,15 +5,15 @@ use Rattle.repair.proofs.whole.packed.Goals as goal
 
 pub pack-slots-requires : goal.pack-slots-requires
 pack-slots-requires c =
-    let p = c.requires.plain c.in-Accepted.is in
+    let p = c.requires.plain c.in-Ok.is in
     (p.heads, p.ids, p.shares, p.minima)
 
-pub returns-in-Accepted : goal.returns-in-Accepted
-returns-in-Accepted c =
+pub returns-in-Ok : goal.returns-in-Ok
+returns-in-Ok c =
     let x = c.args in
-    packs-accepted x.t x.s x.heads.now x.ids.now x.shares.now x.minima.now x.acts.now _ c.in-Accepted.is refl refl refl c.pack-slots.ensures c.report-actions.ensures.0
+    packs-accepted x.t x.s x.heads.now x.ids.now x.shares.now x.minima.now x.acts.now _ c.in-Ok.is refl refl refl c.pack-slots.ensures c.report-actions.ensures.0
 
-pub returns-in-Refused : goal.returns-in-Refused
-returns-in-Refused c =
+pub returns-in-Err : goal.returns-in-Err
+returns-in-Err c =
     let x = c.args in
-    packs-refused x.t x.s x.heads.now x.ids.now x.shares.now x.minima.now x.acts.now c.refused.result c.in-Refused.e c.in-Refused.is c.refused.ensures
+    packs-refused x.t x.s x.heads.now x.ids.now x.shares.now x.minima.now x.acts.now c.refused.result c.in-Err.e c.in-Err.is c.refused.ensures

@@ -6,25 +6,26 @@ use lib.ListN.{length}
 use Rattle.rules.specs.Repair.{or_first}
 use Rattle.rules.specs.Tree.{ids}
 use Rattle.lists.specs.Find.{place_of}
-use Rattle.lists.specs.declared.Place.{Place}
+use Rattle.std.specs.Prelude as Std
+use Rattle.std.specs.Prelude.{ℕ}
 use Rattle.sifting.proofs.LeafLaws.{active_past, active-at}
 use Rattle.sifting.proofs.panes.active_of.Goals as goal
 
 pub returns-then-panes-active : goal.returns-then-panes-active
 returns-then-panes-active c = let a = c.args in active_past a.panes.len a.active a.panes.at (ids a.kept) c.if-panes-active.true
 
-pub returns-in-At : goal.returns-in-At
-returns-in-At c =
+pub returns-in-Some : goal.returns-in-Some
+returns-in-Some c =
     let a = c.args in
     let s : length a.panes.at ≡ 16 = search (rules, c.well_formed) in
-    sym (ap (λ (p : Place). or_first (place_of p)) c.in-At.is)
+    sym (ap (λ (p : Std.Option ℕ). or_first (place_of p)) c.in-Some.is)
     ∙ active-at a.panes.len a.active a.panes.at (ids a.kept) c.get-pane.result c.position-place.result (omega (arith, c.requires.0))
     c.if-panes-active.false c.get-pane.ensures c.position-place.ensures
 
-pub returns-in-Nothing : goal.returns-in-Nothing
-returns-in-Nothing c =
+pub returns-in-None : goal.returns-in-None
+returns-in-None c =
     let a = c.args in
     let s : length a.panes.at ≡ 16 = search (rules, c.well_formed) in
-    sym (ap (λ (p : Place). or_first (place_of p)) c.in-Nothing.is)
+    sym (ap (λ (p : Std.Option ℕ). or_first (place_of p)) c.in-None.is)
     ∙ active-at a.panes.len a.active a.panes.at (ids a.kept) c.get-pane.result c.position-place.result (omega (arith, c.requires.0))
     c.if-panes-active.false c.get-pane.ensures c.position-place.ensures

@@ -1,4 +1,5 @@
 -- `tabbing::groups::landing` meets its contract. Assumes nothing.
+use native.Mathlib.Omega.{arith}
 use Rattle.nodes.proofs.SlotLaws.{tabs-few, tabs-place}
 use Rattle.nodes.proofs.GroupLaws.{group-kind, landed}
 use Rattle.tabbing.proofs.groups.landing.Goals as goal
@@ -6,7 +7,7 @@ use Rattle.tabbing.proofs.groups.landing.Goals as goal
 pub remove-left-requires : goal.remove-left-requires
 remove-left-requires c =
     let s = c.args.s in
-    group-kind s c.requires.1 (λ b e. (tabs-place s b e c.args.from c.requires.2, tabs-few s b e c.requires.0))
+    (omega arith, group-kind s c.requires.1 (λ b e. (tabs-place s b e c.args.from c.requires.2, tabs-few s b e c.requires.0)))
 
 pub returns : goal.returns
 returns c =

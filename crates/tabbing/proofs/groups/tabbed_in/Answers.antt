@@ -1,4 +1,5 @@
 -- `tabbing::groups::tabbed_in` goes by the slot's kind. Assumes nothing.
+use native.Mathlib.Omega.{arith}
 use mathlib.Core.Path.{refl}
 use Rattle.rules.specs.Operations.{tabbed_in}
 use Rattle.rules.specs.declared.model.Kind.TheVariants.{Split}
@@ -8,7 +9,7 @@ use Rattle.tabbing.proofs.groups.tabbed_in.Goals as goal
 
 pub insert-more-requires : goal.insert-more-requires
 insert-more-requires c =
-    (c.clamped-place.ensures.1, roomy c.args.s _ c.in-Tabs.is c.requires.1)
+    (omega arith, (c.clamped-place.ensures.1, roomy c.args.s _ c.in-Tabs.is c.requires.1))
 
 pub returns-in-Tabs : goal.returns-in-Tabs
 returns-in-Tabs c =

@@ -8,7 +8,7 @@ use lib.ListN.{length, get_or, length-take}
 use lib.Ieee.{nan, eq, ne}
 use Rattle.rules.specs.Numbers.{zero-f}
 use Rattle.rules.specs.Tree.{reals}
-use Rattle.rules.specs.declared.model.Reals.{Reals}
+use Rattle.rules.specs.Tree.{Reals}
 use Rattle.lists.specs.Tests.{agreed-more, agreed-not, agreed-all, unlike-lengths}
 use Rattle.lists.specs.Places.{used-length, get_d-used}
 use Rattle.util.proofs.shares.eq_reals.Goals as goal

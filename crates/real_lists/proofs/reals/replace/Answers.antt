@@ -1,9 +1,0 @@
--- `real_lists::reals::replace` is one store within the entries in use. Assumes nothing.
-use borrow.Author.Rules.{rules}
-use Rattle.lists.specs.Build.{replaced}
-use Rattle.real_lists.proofs.reals.replace.Goals as goal
-
-pub returns : goal.returns
-returns c =
-    let a = c.args in
-    replaced a.i a.x a.l.at a.l.len (search rules)
