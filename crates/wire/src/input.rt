@@ -15,6 +15,7 @@ fn read_full<R: Read>(input: &mut R, buf: &mut [u8]) -> io::Result<usize>
     ensures passes { Passes (R.remaining input.old) (R.remaining input.new) }
 {
     let mut done = 0usize;
+    // Kept: a read gives any number of bytes, so no count of turns would be plainer.
     while done < buf.len() {
         let n = input.read(&mut buf[done..])?;
         if n == 0 {

@@ -2,7 +2,6 @@
 use mathlib.Core.Path.{sym, ap, ◌∙◌}
 use Rattle.rules.specs.Operations.{Applied}
 use Rattle.rules.specs.Refusals.{Told, answer_of}
-use Rattle.forest.specs.Lists.{never}
 use Rattle.vectors_ops.proofs.cases.comes_to.Goals as goal
 
 pub returns : goal.returns
