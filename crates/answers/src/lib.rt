@@ -2,130 +2,81 @@
 #![tactic(auto)]
 
 ghost use Rattle.std.specs.Prelude.{◌≡◌};
-ghost use Rattle.rules.specs.Refusals.{answer_of, refusal_of};
+ghost use Rattle.rules.specs.Refusals.{answer_of, refusal_of, told};
 ghost use Rattle.answers.specs.Numbers.{told_of};
 
 use rules::refusal::{Answer, Refusal};
 
 // A number, 0 where it is accepted, and its two details, 0 unless document 01 names them.
-#[derive(Clone, Copy)]
+#[derive(Clone, Copy, PartialEq, Eq, Debug)]
 pub struct Told {
     pub number: u64,
     pub first: u64,
     pub second: u64,
 }
 
+impl Told {
+    fn new(number: u64, first: u64, second: u64) -> Told
+        ensures { told_of result ≡ told number first second }
+    {
+        Told {
+            number,
+            first,
+            second,
+        }
+    }
+
+    // A number with no details.
+    fn plain(number: u64) -> Told
+        ensures { told_of result ≡ told number 0 0 }
+    {
+        Told::new(number, 0, 0)
+    }
+}
+
 // What a refusal is called in document 01's table.
-pub fn of_refusal(e: Refusal) -> Told
-    ensures { told_of result ≡ refusal_of e }
-{
-    match e {
-        Refusal::BadTable => Told {
-            number: 1,
-            first: 0,
-            second: 0,
-        },
-        Refusal::ArenaFull => Told {
-            number: 2,
-            first: 0,
-            second: 0,
-        },
-        Refusal::TooWide => Told {
-            number: 3,
-            first: 0,
-            second: 0,
-        },
-        Refusal::NotSound => Told {
-            number: 4,
-            first: 0,
-            second: 0,
-        },
-        Refusal::BadInput => Told {
-            number: 5,
-            first: 0,
-            second: 0,
-        },
-        Refusal::InvalidTileId => Told {
-            number: 6,
-            first: 0,
-            second: 0,
-        },
-        Refusal::InvalidPaneId => Told {
-            number: 7,
-            first: 0,
-            second: 0,
-        },
-        Refusal::InvalidTarget => Told {
-            number: 8,
-            first: 0,
-            second: 0,
-        },
-        Refusal::InvalidOperation => Told {
-            number: 9,
-            first: 0,
-            second: 0,
-        },
-        Refusal::DuplicatePane(pane) => Told {
-            number: 10,
-            first: pane,
-            second: 0,
-        },
-        Refusal::RevisionExhausted => Told {
-            number: 11,
-            first: 0,
-            second: 0,
-        },
-        Refusal::EmptyTabs => Told {
-            number: 12,
-            first: 0,
-            second: 0,
-        },
-        Refusal::TooFewSplitChildren { children } => Told {
-            number: 13,
-            first: children as u64,
-            second: 0,
-        },
-        Refusal::ShareCountMismatch { children, shares } => Told {
-            number: 14,
-            first: children as u64,
-            second: shares as u64,
-        },
-        Refusal::InvalidShare { index } => Told {
-            number: 15,
-            first: index as u64,
-            second: 0,
-        },
-        Refusal::TooManySplitConstraints {
-            children,
-            constraints,
-        } => Told {
-            number: 16,
-            first: children as u64,
-            second: constraints as u64,
-        },
-        Refusal::InvalidSplitConstraint { index } => Told {
-            number: 17,
-            first: index as u64,
-            second: 0,
-        },
-        Refusal::InvalidActiveTab { active, panes } => Told {
-            number: 18,
-            first: active as u64,
-            second: panes as u64,
-        },
+impl From<Refusal> for Told {
+    ghost from_gives = { λ e t. told_of t ≡ refusal_of e };
+
+    fn from(e: Refusal) -> Told {
+        match e {
+            Refusal::BadTable => Told::plain(1),
+            Refusal::ArenaFull => Told::plain(2),
+            Refusal::TooWide => Told::plain(3),
+            Refusal::NotSound => Told::plain(4),
+            Refusal::BadInput => Told::plain(5),
+            Refusal::InvalidTileId => Told::plain(6),
+            Refusal::InvalidPaneId => Told::plain(7),
+            Refusal::InvalidTarget => Told::plain(8),
+            Refusal::InvalidOperation => Told::plain(9),
+            Refusal::DuplicatePane(pane) => Told::new(10, pane, 0),
+            Refusal::RevisionExhausted => Told::plain(11),
+            Refusal::EmptyTabs => Told::plain(12),
+            Refusal::TooFewSplitChildren { children } => Told::new(13, children as u64, 0),
+            Refusal::ShareCountMismatch { children, shares } => {
+                Told::new(14, children as u64, shares as u64)
+            }
+            Refusal::InvalidShare { index } => Told::new(15, index as u64, 0),
+            Refusal::TooManySplitConstraints {
+                children,
+                constraints,
+            } => Told::new(16, children as u64, constraints as u64),
+            Refusal::InvalidSplitConstraint { index } => Told::new(17, index as u64, 0),
+            Refusal::InvalidActiveTab { active, panes } => {
+                Told::new(18, active as u64, panes as u64)
+            }
+        }
     }
 }
 
 // What an answer is called there.
-pub fn of_answer(a: Answer) -> Told
-    ensures { told_of result ≡ answer_of a }
-{
-    match a {
-        Ok(()) => Told {
-            number: 0,
-            first: 0,
-            second: 0,
-        },
-        Err(e) => of_refusal(e),
+impl From<Answer> for Told {
+    ghost from_gives = { λ a t. told_of t ≡ answer_of a };
+
+    fn from(a: Answer) -> Told {
+        match a {
+            Ok(()) => Told::plain(0),
+            Err(e) => Told::from(e),
+        }
     }
 }

@@ -29,56 +29,49 @@ fn target_of(w: [u64; 8], fraction: f64) -> DockTarget
     ensures { result ≡ target_by (get_or w 5 0) w fraction }
 {
     let tile = TileId { slot: w[4] };
-    let what = w[5];
-    if what == 0 {
-        return DockTarget::Root;
-    }
-    if what == 1 {
-        let along = modes::axis_of(w[2]);
-        let placement = placement_of(w[3]);
-        return DockTarget::Split {
+    match w[5] {
+        0 => DockTarget::Root,
+        1 => DockTarget::Split {
             tile,
-            axis: along,
-            placement,
+            axis: modes::axis_of(w[2]),
+            placement: placement_of(w[3]),
             ratio: fraction,
-        };
+        },
+        _ => DockTarget::TabInto {
+            group: tile,
+            index: index_of(w[6], w[7]),
+        },
     }
-    let index = index_of(w[6], w[7]);
-    DockTarget::TabInto { group: tile, index }
 }
 
+// Kept: an Option would do for `op_ok` and this together, but this one could not fail, and still can't.
 pub fn op_of(words: &[u64; 8], fraction: f64) -> TileOp
     ensures { result ≡ op_from words.now fraction }
 {
     let w = *words;
-    let what = w[0];
     let pane = w[1];
-    if what == 0 {
-        return TileOp::ActivatePane { pane };
-    }
-    if what == 1 {
-        return TileOp::ClosePane { pane };
-    }
-    if what == 2 {
-        let axis = modes::axis_of(w[2]);
-        let placement = placement_of(w[3]);
-        return TileOp::SplitPane {
+    match w[0] {
+        0 => TileOp::ActivatePane { pane },
+        1 => TileOp::ClosePane { pane },
+        2 => {
+            let axis = modes::axis_of(w[2]);
+            TileOp::SplitPane {
+                pane,
+                axis,
+                new_pane: w[4],
+                placement: placement_of(w[3]),
+                share: fraction,
+            }
+        }
+        3 => TileOp::MovePane {
             pane,
-            axis,
-            new_pane: w[4],
-            placement,
-            share: fraction,
-        };
-    }
-    if what == 3 {
-        let target = target_of(w, fraction);
-        return TileOp::MovePane { pane, target };
-    }
-    let group = TileId { slot: w[4] };
-    TileOp::ReorderTab {
-        group,
-        pane,
-        index: w[7] as usize,
+            target: target_of(w, fraction),
+        },
+        _ => TileOp::ReorderTab {
+            group: TileId { slot: w[4] },
+            pane,
+            index: w[7] as usize,
+        },
     }
 }
 
@@ -86,21 +79,11 @@ pub fn op_of(words: &[u64; 8], fraction: f64) -> TileOp
 pub fn input_of(numbers: &[f64; 8]) -> LayoutInput
     ensures { result ≡ input_from numbers.now }
 {
-    let n = *numbers;
-    let bounds = Rect {
-        x0: n[0],
-        y0: n[1],
-        x1: n[2],
-        y1: n[3],
-    };
-    let min_pane_size = Size {
-        width: n[6],
-        height: n[7],
-    };
+    let [x0, y0, x1, y1, tab_bar, split_handle, width, height] = *numbers;
     LayoutInput {
-        bounds,
-        tab_bar_thickness: n[4],
-        split_handle_thickness: n[5],
-        min_pane_size,
+        bounds: Rect { x0, y0, x1, y1 },
+        tab_bar_thickness: tab_bar,
+        split_handle_thickness: split_handle,
+        min_pane_size: Size { width, height },
     }
 }

@@ -15,12 +15,6 @@ use Rattle.columns.specs.RowLaws.{unused-none}
 use Rattle.coding.specs.Lent.{lot, lent, tidied_by, tidied}
 use Rattle.crossing.specs.Parts.{tidy_by, tidy_heads}
 
-pub tidied-split : (k : ℕ) (h : List ℕ) → (k ≡ 0 → ⊥) → (k ≡ 1 → ⊥) → (k ≡ 2 → ⊥) → h ≡ tidied_by k h
-tidied-split zero h a b c = absurd (a refl)
-tidied-split (suc zero) h a b c = absurd (b refl)
-tidied-split (suc (suc zero)) h a b c = absurd (c refl)
-tidied-split (suc (suc (suc k))) h a b c = refl
-
 module _ (h : List ℕ) where
   node-tidy : (k : ℕ) → get_or h 0 0 ≡ k → (xs : List ℕ) (ss ms : List Float) → node_from (tidied_by k h) xs ss ms ≡ node_by k h xs ss ms
   node-tidy zero e xs ss ms = refl

@@ -9,10 +9,5 @@ pub fn write(list: &[[u64; 3]; 1300], n: usize, acts: &mut [[u64; 3]; 1300])
     requires { n ≤ 1300 }
     ensures { (l : List RepairAction) → Lists list.now n l → Writes l acts.old acts.new n }
 {
-    let mut i = 0usize;
-    while i < n {
-        let a = list[i];
-        acts[i] = a;
-        i += 1;
-    }
+    acts[..n].copy_from_slice(&list[..n]);
 }

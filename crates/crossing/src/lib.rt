@@ -2,6 +2,5 @@
 #![tactic(auto)]
 
 pub mod actions;
-pub mod arena;
 pub mod tidy;
 pub mod told;

@@ -2,12 +2,11 @@
 use mathlib.Core.Path.{◌≡◌, refl, ap, ◌∙◌}
 use mathlib.Core.Bool.{Bool, true, false, ◌&&◌, ◌||◌}
 use mathlib.Core.List.{List, [], ◌∷◌, map}
-use Prim.Native.Nat.{ℕ, zero, suc, ◌≤◌, ◌<◌}
-use native.Mathlib.Omega.{arith}
+use Prim.Native.Nat.{ℕ, zero, suc}
 use lib.ListN.{get_or, take}
 use lib.Ieee.{Float}
 use Rattle.rules.specs.Lists.{any_of, all_of}
-use Rattle.rules.specs.Tree.{tabs, split, tile, bar_code, axis_code}
+use Rattle.rules.specs.Tree.{tabs, split, tile}
 use Rattle.columns.specs.Columns.{bar_from, axis_from, node_by, node_from, nodes_from}
 use Rattle.columns.specs.Pack.{over_kind, over_of}
 use Rattle.columns.specs.Shown.{arena_from}
@@ -16,33 +15,6 @@ use Rattle.coding.specs.Lent.{lot, code_ok, codes_ok}
 use Rattle.crossing.specs.Parts.{Holds}
 use Rattle.lending.specs.Back.{fitted_by, fitted, fit_by, fit_heads}
 use Rattle.coding.proofs.CodeLaws.{bar-ok, axis-ok}
-
--- ---- modes, by what the branches of the code know
-
-pub bar-low : (m : ℕ) → m < 4 → m ≡ bar_code (bar_from m)
-bar-low zero h = refl
-bar-low (suc zero) h = refl
-bar-low (suc (suc zero)) h = refl
-bar-low (suc (suc (suc zero))) h = refl
-bar-low (suc (suc (suc (suc m)))) h = absurd (omega arith)
-
-pub bar-high : (m : ℕ) → 4 ≤ m → 4 ≡ bar_code (bar_from m)
-bar-high zero h = absurd (omega arith)
-bar-high (suc zero) h = absurd (omega arith)
-bar-high (suc (suc zero)) h = absurd (omega arith)
-bar-high (suc (suc (suc zero))) h = absurd (omega arith)
-bar-high (suc (suc (suc (suc m)))) h = refl
-
-pub axis-other : (m : ℕ) → (m ≡ 0 → ⊥) → 1 ≡ axis_code (axis_from m)
-axis-other zero h = absurd (h refl)
-axis-other (suc m) h = refl
-
-pub fitted-split : (k : ℕ) (h : List ℕ) (r : ℕ) → (k ≡ 0 → ⊥) → (k ≡ 1 → ⊥) → (k ≡ 2 → ⊥) → r ≡ axis_code (axis_from (get_or h 1 0))
-    → 3 ∷ r ∷ 0 ∷ 0 ∷ get_or h 4 0 ∷ get_or h 5 0 ∷ get_or h 6 0 ∷ 0 ∷ [] ≡ fitted_by k h
-fitted-split zero h r a b c e = absurd (a refl)
-fitted-split (suc zero) h r a b c e = absurd (b refl)
-fitted-split (suc (suc zero)) h r a b c e = absurd (c refl)
-fitted-split (suc (suc (suc k))) h r a b c e = λ z. 3 ∷ e z ∷ 0 ∷ 0 ∷ get_or h 4 0 ∷ get_or h 5 0 ∷ get_or h 6 0 ∷ 0 ∷ []
 
 -- ---- one head
 

@@ -1,7 +1,7 @@
 // Repair of lent arrays: the arena in its columns, its actions in the list that is lent, the answer told.
 #![tactic(auto)]
 
-ghost use Rattle.std.specs.Prelude.{◌≡◌, true, not, ◌&&◌, List, ℕ, length};
+ghost use Rattle.std.specs.Prelude.{◌≡◌, true, not, ◌&&◌, List, ℕ};
 ghost use Rattle.rules.specs.Lists.{any_of};
 ghost use Rattle.rules.specs.Repair.{repair};
 ghost use Rattle.forest.specs.Still.{is_still};
@@ -12,7 +12,7 @@ ghost use Rattle.mending.specs.Mends.{Mends};
 
 use columns::unpack;
 use crossing::{actions, tidy, told};
-use lending::back;
+use lending::back::{self, Kept};
 use rules::refusal::Answer;
 
 // Whether no length is over 16, and repair would list nothing: by a walk that only reads.
@@ -23,7 +23,6 @@ pub fn is_still(
     shares: &[[f64; 16]; 64],
     minima: &[[f64; 16]; 64],
 ) -> bool
-    requires { (length heads.now ≡ 64) × (length ids.now ≡ 64) × (length shares.now ≡ 64) × (length minima.now ≡ 64) }
     ensures { (v : ℕ) → result ≡ (not (any_of over_head heads.now) && is_still (repair (arena_from root v heads.now ids.now shares.now minima.now))) }
 {
     if unpack::heads_over(heads) {
@@ -47,7 +46,7 @@ pub fn mend_still(
     requires { Plain heads.old ids.old shares.old minima.old × (is_still (repair (arena_from root revision heads.old ids.old shares.old minima.old)) ≡ true) }
     ensures { (acts : List (List ℕ)) → Mends (repair (arena_from root revision heads.old ids.old shares.old minima.old)) (lot top.old heads.old ids.old shares.old minima.old) acts (lot top.new heads.new ids.new shares.new minima.new) acts out.new result }
 {
-    let mut silent = [[0u64; 3]; 1];
+    let mut silent = [[0; 3]; 1];
     let d = settling::settle::repair_columns(root, heads, ids, shares, minima, &mut silent);
     back::store(d.root, revision, top, heads);
     told::tell(Ok(()), 0, 0, out)
@@ -65,32 +64,19 @@ pub fn mend(
     acts: &mut [[u64; 3]; 1300],
     out: &mut [u64; 4],
 ) -> u64
-    requires { (length heads.old ≡ 64) × (length ids.old ≡ 64) × (length shares.old ≡ 64) × (length minima.old ≡ 64) }
     ensures { Mends (repair (arena_from root revision heads.old ids.old shares.old minima.old)) (lot top.old heads.old ids.old shares.old minima.old) acts.old (lot top.new heads.new ids.new shares.new minima.new) acts.new out.new result }
 {
-    let old_heads = *heads;
-    let old_ids = *ids;
-    let old_shares = *shares;
-    let old_minima = *minima;
+    let old = Kept {
+        heads: *heads,
+        ids: *ids,
+        shares: *shares,
+        minima: *minima,
+    };
     tidy::tidy_lent(heads);
-    let mut list = [[0u64; 3]; 1300];
+    let mut list = [[0; 3]; 1300];
     let d = settling::settle::repair_columns(root, heads, ids, shares, minima, &mut list);
-    let answer = d.answer;
-    let n = told::tell(answer, d.count as u64, 0, out);
+    let n = told::tell(d.answer, d.count as u64, 0, out);
     actions::write(&list, d.count, acts);
-    back::keep_columns(
-        n,
-        d.root,
-        revision,
-        &old_heads,
-        &old_ids,
-        &old_shares,
-        &old_minima,
-        top,
-        heads,
-        ids,
-        shares,
-        minima,
-    );
+    back::keep_columns(n, d.root, revision, &old, top, heads, ids, shares, minima);
     n
 }

@@ -115,7 +115,7 @@ fn grid(panes: u64, n: u64, m: u64, all: u64) -> Written
 fn answer_to(b: &[u8]) -> u64 {
     let d = spec::whole::from_spec(b);
     let answer = d.answer;
-    let told = answers::of_answer(answer);
+    let told = answers::Told::from(answer);
     told.number
 }
 

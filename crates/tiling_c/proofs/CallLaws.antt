@@ -1,5 +1,5 @@
 -- Laws of the calls, over plain values: how what the parts left gives each call's promise. Assumes nothing.
-use mathlib.Core.Path.{◌≡◌, refl, sym, ap, subst, ◌∙◌}
+use mathlib.Core.Path.{◌≡◌, sym, ap, subst, ◌∙◌}
 use mathlib.Core.Bool.{Bool, true, false, ◌&&◌}
 use mathlib.Core.List.{List}
 use Prim.Native.Nat.{ℕ, ◌≤◌}
@@ -82,9 +82,6 @@ builds bs a root hs xs ss ms l' out' n D H T =
 
 -- ---- repair
 
-pub repairs-bad : (l : Lot) (acts : List (List ℕ)) (out : List ℕ) → lot_ok l ≡ false → Repairs l acts out l acts out 5
-repairs-bad l acts out b = record { bad = λ e. (refl, refl, refl, refl); good = λ e. absurd (no_both (lot_ok l) b e) }
-
 -- a is the arena lent, and x the rule's answer for it
 pub repairs-good : (l : Lot) (acts : List (List ℕ)) (out : List ℕ) (a : Arena) (hs xs : List (List ℕ)) (ss ms : List (List Float)) (list : List (List ℕ)) (d : Settled) (l' : Lot) (acts' : List (List ℕ)) (out' : List ℕ) (n : ℕ) → lot_ok l ≡ true
     → a ≡ lent l → Comes a (repair a) hs xs ss ms list d → ((k : List RepairAction) → Lists list d.count k → Writes k acts acts' d.count) → Tells d.answer d.count 0 out' n
@@ -105,16 +102,10 @@ repairs-good l acts out a hs xs ss ms list d l' acts' out' n g v C W T K =
 
 -- ---- is_sound
 
-pub sound-bad : (c s : Bool) → c ≡ false → 5 ≡ sound_code c s
-sound-bad c s e = ap (λ (b : Bool). sound_code b s) (sym e)
-
 pub sound-is : (l : Lot) (a : Arena) (r : ℕ) → lot_ok l ≡ true → a ≡ lent l → r ≡ sound_code true (sound a) → r ≡ sound_code (lot_ok l) (sound (lent l))
 sound-is l a r g v e = e ∙ (λ z. sound_code (sym g z) (sound (v z)))
 
 -- ---- apply
-
-pub applies-bad : (l : Lot) (w : List ℕ) (f : Float) (out : List ℕ) → (lot_ok l && op_ok w) ≡ false → Applies l w f out l out 5
-applies-bad l w f out b = record { bad = λ e. (refl, refl, refl); good = λ e. absurd (no_both (lot_ok l && op_ok w) b e) }
 
 -- a is the arena lent, and the rule's answer for it is what the columns came to
 pub applies-good : (l : Lot) (w : List ℕ) (f : Float) (out : List ℕ) (a : Arena) (op : TileOp) (hs xs : List (List ℕ)) (ss ms : List (List Float)) (r : Result (Maybe AppliedIn) Refusal) (d : AppliedIn) (l' : Lot) (out' : List ℕ) (n : ℕ) → (lot_ok l && op_ok w) ≡ true
@@ -147,9 +138,6 @@ lays a i cs qs cs' qs' d out' n L T =
     }
 
 module _ (l : Lot) (q : List Float) (cs : List (List ℕ)) (qs : List (List Float)) (out : List ℕ) where
-  pub lays-bad : lot_ok l ≡ false → LaysInto l q cs qs out cs qs out 5
-  lays-bad b = record { bad = λ e. (refl, refl, refl, refl); good = λ e. absurd (no_both (lot_ok l) b e) }
-
   pub lays-good : (a : Arena) (i : LayoutInput) (cs' : List (List ℕ)) (qs' : List (List Float)) (out' : List ℕ) (n : ℕ) → lot_ok l ≡ true → a ≡ lent l → i ≡ input_from q
       → Lays a i cs qs cs' qs' out' n → LaysInto l q cs qs out cs' qs' out' n
   lays-good a i cs' qs' out' n g v o L =

@@ -13,9 +13,9 @@ ghost use Rattle.tiling_c.specs.Calls.{Builds, Repairs, sound_code, Applies, Lay
 
 use coding::{codes, operation};
 use columns::unpack;
-use crossing::{actions, arena, tidy, told};
+use crossing::{actions, tidy, told};
 use docking::AppliedIn;
-use lending::back;
+use lending::back::{self, Kept};
 use rules::frame::LayoutInput;
 
 // What a number that names nothing is answered with: document 01's 'bad input'.
@@ -34,14 +34,13 @@ pub extern "C" fn tiling_from_spec(
 ) -> u64
     ensures { Builds bytes.now (lot top.new heads.new ids.new shares.new minima.new) out.new result }
 {
-    *heads = [[0u64; 8]; 64];
-    *ids = [[0u64; 16]; 64];
-    *shares = [[0.0f64; 16]; 64];
-    *minima = [[0.0f64; 16]; 64];
+    *heads = [[0; 8]; 64];
+    *ids = [[0; 16]; 64];
+    *shares = [[0.0; 16]; 64];
+    *minima = [[0.0; 16]; 64];
     let r = spec::whole::spec_into(bytes, heads, ids, shares, minima);
     back::store(r.root, 0, top, heads);
-    let answer = r.answer;
-    told::tell(answer, 0, 0, out)
+    told::tell(r.answer, 0, 0, out)
 }
 
 // An arena made sound, and its actions: three numbers each, kind, tile and pane. A refused one is left as it was.
@@ -60,32 +59,19 @@ pub extern "C" fn tiling_repair(
     if !codes::codes_ok(heads) {
         return BAD_INPUT;
     }
-    arena::sized(heads, ids, shares, minima);
-    let old_heads = *heads;
-    let old_ids = *ids;
-    let old_shares = *shares;
-    let old_minima = *minima;
+    let old = Kept {
+        heads: *heads,
+        ids: *ids,
+        shares: *shares,
+        minima: *minima,
+    };
     tidy::tidy_lent(heads);
-    let mut list = [[0u64; 3]; 1300];
-    let words = *top;
-    let d = settling::settle::repair_columns(words[0], heads, ids, shares, minima, &mut list);
-    let answer = d.answer;
-    let n = told::tell(answer, d.count as u64, 0, out);
+    let mut list = [[0; 3]; 1300];
+    let [root, revision] = *top;
+    let d = settling::settle::repair_columns(root, heads, ids, shares, minima, &mut list);
+    let n = told::tell(d.answer, d.count as u64, 0, out);
     actions::write(&list, d.count, acts);
-    back::keep_columns(
-        n,
-        d.root,
-        words[1],
-        &old_heads,
-        &old_ids,
-        &old_shares,
-        &old_minima,
-        top,
-        heads,
-        ids,
-        shares,
-        minima,
-    );
+    back::keep_columns(n, d.root, revision, &old, top, heads, ids, shares, minima);
     n
 }
 
@@ -101,9 +87,10 @@ fn sound_number(
     ensures { (v : ℕ) → result ≡ sound_code true (sound (arena_from root v heads.now ids.now shares.now minima.now)) }
 {
     if repair::whole::sound_columns(root, heads, ids, shares, minima) {
-        return 0;
+        0
+    } else {
+        4
     }
-    4
 }
 
 // 0 where the arena is sound, 4 where it is not.
@@ -120,13 +107,12 @@ pub extern "C" fn tiling_is_sound(
     if !codes::codes_ok(heads) {
         return BAD_INPUT;
     }
-    arena::sized(heads, ids, shares, minima);
-    let words = *top;
+    let root = top[0];
     if unpack::heads_over(heads) {
         let plain = tidy::tidy(heads);
-        return sound_number(words[0], &plain, ids, shares, minima);
+        return sound_number(root, &plain, ids, shares, minima);
     }
-    sound_number(words[0], heads, ids, shares, minima)
+    sound_number(root, heads, ids, shares, minima)
 }
 
 // One change. A refused one leaves the arena as it was.
@@ -143,36 +129,28 @@ pub extern "C" fn tiling_apply(
 ) -> u64
     ensures { Applies (lot top.old heads.old ids.old shares.old minima.old) words.now fraction out.old (lot top.new heads.new ids.new shares.new minima.new) out.new result }
 {
-    if !codes::codes_ok(heads) {
+    if !codes::codes_ok(heads) || !codes::op_ok(words) {
         return BAD_INPUT;
     }
-    if !codes::op_ok(words) {
-        return BAD_INPUT;
-    }
-    arena::sized(heads, ids, shares, minima);
     let op = operation::op_of(words, fraction);
-    let old_heads = *heads;
-    let old_ids = *ids;
-    let old_shares = *shares;
-    let old_minima = *minima;
+    let old = Kept {
+        heads: *heads,
+        ids: *ids,
+        shares: *shares,
+        minima: *minima,
+    };
     tidy::tidy_lent(heads);
-    let given = *top;
-    let done = ops::whole::apply_columns(given[0], given[1], op, heads, ids, shares, minima);
+    let [root, revision] = *top;
+    let done = ops::whole::apply_columns(root, revision, op, heads, ids, shares, minima);
     let answer = ops::finish::answer_of(done);
     let n = told::tell(answer, 0, 0, out);
-    let same = AppliedIn {
-        root: given[0],
-        revision: given[1],
-    };
+    let same = AppliedIn { root, revision };
     let end = done.unwrap_or(None).unwrap_or(same);
     back::keep_columns(
         n,
         end.root,
         end.revision,
-        &old_heads,
-        &old_ids,
-        &old_shares,
-        &old_minima,
+        &old,
         top,
         heads,
         ids,
@@ -201,8 +179,7 @@ fn lay(
     let d = layout::whole::layout_columns(
         root, revision, given, heads, ids, shares, minima, items, rects,
     );
-    let answer = d.answer;
-    told::tell(answer, d.len as u64, d.revision, out)
+    told::tell(d.answer, d.len as u64, d.revision, out)
 }
 
 // The frame of an arena as one stream: `out` has the number of its items. A refusal leaves the stream as it was.
@@ -223,17 +200,16 @@ pub extern "C" fn tiling_layout_into(
     if !codes::codes_ok(heads) {
         return BAD_INPUT;
     }
-    arena::sized(heads, ids, shares, minima);
-    let words = *top;
+    let [root, revision] = *top;
     let given = operation::input_of(input);
     if unpack::heads_over(heads) {
         let plain = tidy::tidy(heads);
         return lay(
-            words[0], words[1], given, &plain, ids, shares, minima, items, rects, out,
+            root, revision, given, &plain, ids, shares, minima, items, rects, out,
         );
     }
     lay(
-        words[0], words[1], given, heads, ids, shares, minima, items, rects, out,
+        root, revision, given, heads, ids, shares, minima, items, rects, out,
     )
 }
 
@@ -258,6 +234,5 @@ pub extern "C" fn tiling_solve(
         minimum_count as usize,
         lengths,
     );
-    let answer = d.answer;
-    told::tell(answer, d.len as u64, d.passes, out)
+    told::tell(d.answer, d.len as u64, d.passes, out)
 }

@@ -7,6 +7,7 @@ ghost use Rattle.rules.specs.declared.operation.TileOp.TheVariants as Ops;
 ghost use Rattle.rules.specs.declared.operation.DockTarget.TheVariants as Targets;
 ghost use Rattle.lists.specs.Exact.{IsTiles};
 
+use answers::Told;
 use columns::pack;
 use nodes::slots;
 use rules::model::{Axis, Kind, Placement, Reals, Slot, TileId, TileTree, Tiles};
@@ -17,12 +18,10 @@ use rules::operation::{DockTarget, TileOp};
 pub fn blank(revision: u64) -> TileTree
     ensures { (result.root.slot ≡ 0) × (result.revision ≡ revision) }
 {
-    let none = pack::bare_slot(Kind::Empty);
-    let root = TileId { slot: 0 };
     TileTree {
-        root,
+        root: TileId { slot: 0 },
         revision,
-        slots: [none; 64],
+        slots: [pack::bare_slot(Kind::Empty); 64],
     }
 }
 
@@ -42,15 +41,13 @@ pub fn with(t: TileTree, at: u64, s: Slot) -> TileTree
 pub fn with_pane(t: TileTree, at: u64, pane: u64) -> TileTree
     ensures { (result.root ≡ t.root) × (result.revision ≡ t.revision) }
 {
-    let s = slots::pane_slot(pane);
-    with(t, at, s)
+    with(t, at, slots::pane_slot(pane))
 }
 
 pub fn with_none(t: TileTree, at: u64) -> TileTree
     ensures { (result.root ≡ t.root) × (result.revision ≡ t.revision) }
 {
-    let s = pack::bare_slot(Kind::Empty);
-    with(t, at, s)
+    with(t, at, pack::bare_slot(Kind::Empty))
 }
 
 pub fn with_split(t: TileTree, at: u64, axis: Axis, children: Tiles, shares: Reals) -> TileTree
@@ -65,12 +62,9 @@ pub fn with_split(t: TileTree, at: u64, axis: Axis, children: Tiles, shares: Rea
 pub fn with_root(t: TileTree, root: u64) -> TileTree
     ensures { (result.root.slot ≡ root) × (result.revision ≡ t.revision) × (result.slots ≡ t.slots) }
 {
-    let given = t.slots;
-    let top = TileId { slot: root };
     TileTree {
-        root: top,
-        revision: t.revision,
-        slots: given,
+        root: TileId { slot: root },
+        ..t
     }
 }
 
@@ -78,13 +72,7 @@ pub fn with_root(t: TileTree, root: u64) -> TileTree
 pub fn at_revision(t: TileTree, revision: u64) -> TileTree
     ensures { (result.root ≡ t.root) × (result.revision ≡ revision) × (result.slots ≡ t.slots) }
 {
-    let given = t.slots;
-    let root = t.root;
-    TileTree {
-        root,
-        revision,
-        slots: given,
-    }
+    TileTree { revision, ..t }
 }
 
 pub fn pair(a: u64, b: u64) -> Tiles
@@ -114,13 +102,10 @@ pub fn row(n: usize) -> TileTree
 {
     let mut at = [TileId { slot: 0 }; 16];
     let mut t = blank(7);
-    let mut i = 0usize;
-    while i < n {
+    for i in 0..n {
         let k = i as u64 + 1;
         at[i] = TileId { slot: k };
-        let next = with_pane(t, k, k);
-        t = next;
-        i += 1;
+        t = with_pane(t, k, k);
     }
     let children = Tiles { at, len: n };
     let ones = lists::repeat(n, 1.0);
@@ -129,39 +114,30 @@ pub fn row(n: usize) -> TileTree
 
 // ---- answers
 
+// Whether the answer has this number, and this tree comes back.
+fn comes_to(t: TileTree, op: TileOp, number: u64, wanted: TileTree) -> bool
+    ensures { result ≡ true → (answer_of (apply (view t) op).answer).number ≡ number }
+{
+    let done = ops::whole::apply(t, op);
+    let told = Told::from(done.answer);
+    if told.number != number {
+        return false;
+    }
+    compare::same::same_tree(done.tree, wanted)
+}
+
 // Accepted, and this tree comes back.
 pub fn gives(t: TileTree, op: TileOp, wanted: TileTree) -> bool
     ensures { result ≡ true → (answer_of (apply (view t) op).answer).number ≡ 0 }
 {
-    let done = ops::whole::apply(t, op);
-    let answer = done.answer;
-    let told = answers::of_answer(answer);
-    if told.number != 0 {
-        return false;
-    }
-    let tree = done.tree;
-    compare::same::same_tree(tree, wanted)
+    comes_to(t, op, 0, wanted)
 }
 
 // Refused with this number, or accepted with 0; the tree comes back as it was given.
 pub fn keeps(t: TileTree, op: TileOp, number: u64) -> bool
     ensures { result ≡ true → (answer_of (apply (view t) op).answer).number ≡ number }
 {
-    let done = ops::whole::apply(t, op);
-    let answer = done.answer;
-    let told = answers::of_answer(answer);
-    if told.number != number {
-        return false;
-    }
-    let tree = done.tree;
-    compare::same::same_tree(tree, t)
-}
-
-pub fn one_more(n: u64, yes: bool) -> u64
-    requires { n ≤ 100 }
-    ensures { result ≤ n + 1 }
-{
-    if yes { n + 1 } else { n }
+    comes_to(t, op, number, t)
 }
 
 // ---- operations
@@ -181,6 +157,8 @@ pub fn split_pane(axis: Axis, placement: Placement, share: f64) -> TileOp
 pub fn to_root(pane: u64) -> TileOp
     ensures { result ≡ Ops.MovePane pane Targets.Root }
 {
-    let target = DockTarget::Root;
-    TileOp::MovePane { pane, target }
+    TileOp::MovePane {
+        pane,
+        target: DockTarget::Root,
+    }
 }

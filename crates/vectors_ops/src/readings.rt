@@ -69,9 +69,7 @@ fn own_root() -> bool {
 fn own() -> u64
     ensures { result ≤ 3 }
 {
-    let a = cases::one_more(0, own_group());
-    let b = cases::one_more(a, beside_own_group());
-    cases::one_more(b, own_root())
+    u64::from(own_group()) + u64::from(beside_own_group()) + u64::from(own_root())
 }
 
 // ---- lists of more than 16, and the last pane
@@ -127,10 +125,10 @@ fn last_pane() -> bool {
 fn wide() -> u64
     ensures { result ≤ 4 }
 {
-    let a = cases::one_more(0, full_split());
-    let b = cases::one_more(a, close_melts());
-    let c = cases::one_more(b, move_melts());
-    cases::one_more(c, last_pane())
+    u64::from(full_split())
+        + u64::from(close_melts())
+        + u64::from(move_melts())
+        + u64::from(last_pane())
 }
 
 // ---- the lone empty root
@@ -149,39 +147,26 @@ fn reorder(slot: u64) -> TileOp {
     }
 }
 
+fn lone_split(share: f64) -> TileOp {
+    cases::split_pane(Axis::Horizontal, Placement::After, share)
+}
+
 fn lone_root() -> u64
     ensures { result ≤ 7 }
 {
     let t = lone();
-    let a = cases::one_more(0, cases::keeps(t, TileOp::ActivatePane { pane: 1 }, 7));
-    let b = cases::one_more(a, cases::keeps(t, TileOp::ClosePane { pane: 1 }, 7));
-    let c = cases::one_more(b, cases::keeps(t, cases::to_root(1), 7));
-    let d = cases::one_more(
-        c,
-        cases::keeps(
-            t,
-            cases::split_pane(Axis::Horizontal, Placement::After, 0.5),
-            7,
-        ),
-    );
-    let e = cases::one_more(
-        d,
-        cases::keeps(
-            t,
-            cases::split_pane(Axis::Horizontal, Placement::After, 1.0),
-            9,
-        ),
-    );
-    let f = cases::one_more(e, cases::keeps(t, reorder(0), 7));
-    cases::one_more(f, cases::keeps(t, reorder(1), 6))
+    u64::from(cases::keeps(t, TileOp::ActivatePane { pane: 1 }, 7))
+        + u64::from(cases::keeps(t, TileOp::ClosePane { pane: 1 }, 7))
+        + u64::from(cases::keeps(t, cases::to_root(1), 7))
+        + u64::from(cases::keeps(t, lone_split(0.5), 7))
+        + u64::from(cases::keeps(t, lone_split(1.0), 9))
+        + u64::from(cases::keeps(t, reorder(0), 7))
+        + u64::from(cases::keeps(t, reorder(1), 6))
 }
 
 // How many of the 14 agree.
 pub fn agreed() -> u64
     ensures { result ≤ 14 }
 {
-    let a = own();
-    let b = wide();
-    let c = lone_root();
-    a + b + c
+    own() + wide() + lone_root()
 }

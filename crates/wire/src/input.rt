@@ -15,6 +15,7 @@ fn read_full<R: Read>(input: &mut R, buf: &mut [u8]) -> io::Result<usize>
     ensures passes { Passes (R.remaining input.old) (R.remaining input.new) }
 {
     let mut done = 0usize;
+    // Kept: a read gives any number of bytes, so no count of turns would be plainer.
     while done < buf.len() {
         let n = input.read(&mut buf[done..])?;
         if n == 0 {
@@ -34,24 +35,18 @@ fn byte_in<R: Read>(input: &mut R) -> io::Result<u8>
     Ok(one[0])
 }
 
-fn wide(x: u8) -> u64 {
-    x as u64
-}
-
-// A number, as wire::number reads it from a slice. No contract can say what a file holds, so this one gives only its range: below 2^32, as every count of the files is.
+// A number, as wire::Reader reads it from a slice. No contract can say what a file holds, so this one gives only its range: below 2^32, as every count of the files is.
 pub fn number_in<R: Read>(input: &mut R) -> io::Result<u64>
     ensures range { IfOk result (λ n. n ≤ 4294967295) }
     ensures passes { Passes (R.remaining input.old) (R.remaining input.new) }
 {
     let mut value = 0u64;
-    let mut shift = 0u32;
-    while shift < 64 {
-        let x = wide(byte_in(input)?);
-        value = value | ((x % 128) << shift);
+    for k in 0..10u32 {
+        let x = byte_in(input)?;
+        value |= u64::from(x % 128) << (7 * k);
         if x < 128 {
             return Ok(value % 4294967296);
         }
-        shift += 7;
     }
     Ok(value % 4294967296)
 }
@@ -79,4 +74,38 @@ pub fn body_in<R: Read>(input: &mut R, buf: &mut [u8]) -> io::Result<usize>
     }
     let len = n as usize;
     read_full(input, &mut buf[..len])
+}
+
+// How many of the next cases pass a test of their bodies.
+fn count_cases<R: Read, F: Fn(&[u8]) -> bool>(input: &mut R, cases: u64, same: F) -> io::Result<u64>
+    requires { F.IsAlwaysCallable same }
+    ensures within { IfOk result (λ n. n ≤ cases) }
+    ensures passes { Passes (R.remaining input.old) (R.remaining input.new) }
+{
+    let mut space = [0u8; 65536];
+    let mut agreed = 0u64;
+    for _i in 0..cases {
+        let n = body_in(input, &mut space)?;
+        agreed += u64::from(same(&space[..n]));
+    }
+    Ok(agreed)
+}
+
+// How many of a file's cases agree, and how many there are.
+#[derive(Clone, Copy)]
+pub struct Tally {
+    pub agreed: u64,
+    pub cases: u64,
+}
+
+// A whole file: the magic word, the number of cases, and each case's body put to a test.
+pub fn replay<R: Read, F: Fn(&[u8]) -> bool>(input: &mut R, same: F) -> io::Result<Tally>
+    requires { F.IsAlwaysCallable same }
+    ensures within { IfOk result (λ t. t.agreed ≤ t.cases) }
+    ensures passes { Passes (R.remaining input.old) (R.remaining input.new) }
+{
+    skip_magic(input)?;
+    let cases = number_in(input)?;
+    let agreed = count_cases(input, cases, same)?;
+    Ok(Tally { agreed, cases })
 }

@@ -1,110 +1,152 @@
-// Reading the stored answers that docs/VECTORS.md describes, from a slice and a place in it. Past the end everything reads as zero.
+// Reading the stored answers that docs/VECTORS.md describes, from what is left of a body. Past the end everything reads as zero.
 #![tactic(auto)]
 
 pub mod input;
-pub mod threes;
 pub mod tree;
 
-ghost use Rattle.std.specs.Prelude.{◌≡◌, ◌≤◌, length};
+ghost use Rattle.std.specs.Prelude.{◌≡◌, ◌==◌, ◌≤◌, length};
 ghost use Rattle.wire.specs.Bits.{bits_are};
 
-use rules::model::Reals;
+use answers::Told;
+use rules::model::{Ids, Reals, Sixteen, TileId, Tiles};
 
-// A number or a real's bits, and the place after it.
+// What is left to read of a body.
 #[derive(Clone, Copy)]
-pub struct Word {
-    pub value: u64,
-    pub at: usize,
+pub struct Reader<'a> {
+    pub rest: &'a [u8],
 }
 
-fn wide(x: u8) -> u64 {
-    x as u64
+// What stands in a list of 16.
+trait Entry: Copy {
+    const NONE: Self;
+
+    fn read(from: &mut Reader) -> Self
+        ensures { length from.new.rest.now ≤ length from.old.rest.now };
 }
 
-// Seven bits a byte, low ones first; the high bit says that another byte follows.
-pub fn number(b: &[u8], at: usize) -> Word
-    ensures { result.at ≤ length b.now }
-{
-    if b.len() < at {
-        return Word {
-            value: 0,
-            at: b.len(),
-        };
+impl Entry for u64 {
+    const NONE: u64 = 0;
+
+    fn read(from: &mut Reader) -> u64 {
+        from.number()
     }
-    let mut value = 0u64;
-    let mut i = at;
-    let mut shift = 0u32;
-    while shift < 64 {
-        if b.len() <= i {
-            return Word { value, at: i };
+}
+
+impl Entry for TileId {
+    const NONE: TileId = TileId { slot: 0 };
+
+    fn read(from: &mut Reader) -> TileId {
+        from.tile()
+    }
+}
+
+impl Entry for f64 {
+    const NONE: f64 = 0.0;
+
+    fn read(from: &mut Reader) -> f64 {
+        from.real()
+    }
+}
+
+impl<'a> Reader<'a> {
+    pub fn is_at_end(&self) -> bool
+        ensures { result ≡ (length self.now.rest.now == 0) }
+    {
+        self.rest.is_empty()
+    }
+
+    fn byte(&mut self) -> Option<u8>
+        ensures { length self.new.rest.now ≤ length self.old.rest.now }
+    {
+        let (x, rest) = self.rest.split_first()?;
+        self.rest = rest;
+        Some(*x)
+    }
+
+    // Seven bits a byte, low ones first; the high bit says that another byte follows.
+    pub fn number(&mut self) -> u64
+        ensures { length self.new.rest.now ≤ length self.old.rest.now }
+    {
+        let mut value = 0u64;
+        for k in 0..10u32 {
+            let Some(x) = self.byte() else {
+                return value;
+            };
+            value |= u64::from(x % 128) << (7 * k);
+            if x < 128 {
+                return value;
+            }
         }
-        let x = wide(b[i]);
-        value = value | ((x % 128) << shift);
-        i += 1;
-        if x < 128 {
-            return Word { value, at: i };
+        value
+    }
+
+    // The bits of a real: eight bytes.
+    pub fn bits(&mut self) -> u64
+        ensures { length self.new.rest.now ≤ length self.old.rest.now }
+    {
+        if self.rest.len() < 8 {
+            self.rest = &[];
+            return 0;
         }
-        shift += 7;
+        let bits = number::word(self.rest, 0);
+        self.rest = &self.rest[8..];
+        bits
     }
-    Word { value, at: i }
-}
 
-// The eight bytes of a real.
-pub fn real(b: &[u8], at: usize) -> Word
-    ensures { result.at ≤ length b.now }
-{
-    if b.len() < 8 {
-        return Word {
-            value: 0,
-            at: b.len(),
-        };
+    pub fn real(&mut self) -> f64
+        ensures { length self.new.rest.now ≤ length self.old.rest.now }
+    {
+        number::decode(self.bits())
     }
-    if b.len() - 8 < at {
-        return Word {
-            value: 0,
-            at: b.len(),
-        };
-    }
-    Word {
-        value: number::word(b, at),
-        at: at + 8,
-    }
-}
 
-// A list of reals, and the place after it.
-#[derive(Clone, Copy)]
-pub struct RealsRead {
-    pub list: Reals,
-    pub at: usize,
-}
-
-// At most 16 entries follow a length.
-fn entries(n: u64) -> usize
-    ensures { result ≤ 16 }
-{
-    if n < 16 { n as usize } else { 16 }
-}
-
-// The length as it stands there, of which at most 16 entries follow.
-pub fn reals(b: &[u8], at: usize) -> RealsRead
-    ensures { result.at ≤ length b.now }
-{
-    let n = number(b, at);
-    let count = entries(n.value);
-    let mut xs = [0.0f64; 16];
-    let mut place = n.at;
-    let mut j = 0usize;
-    while j < count {
-        let x = real(b, place);
-        xs[j] = number::decode(x.value);
-        place = x.at;
-        j += 1;
+    pub fn tile(&mut self) -> TileId
+        ensures { length self.new.rest.now ≤ length self.old.rest.now }
+    {
+        TileId {
+            slot: self.number(),
+        }
     }
-    let list = Reals {
-        at: xs,
-        len: n.value as usize,
-    };
-    RealsRead { list, at: place }
+
+    // A refusal's number and two details.
+    pub fn told(&mut self) -> Told
+        ensures { length self.new.rest.now ≤ length self.old.rest.now }
+    {
+        Told {
+            number: self.number(),
+            first: self.number(),
+            second: self.number(),
+        }
+    }
+
+    // The length as it stands there, of which at most 16 entries follow.
+    fn list<T: Entry>(&mut self) -> Sixteen<T>
+        ensures { length self.new.rest.now ≤ length self.old.rest.now }
+    {
+        let len = self.number() as usize;
+        let mut at = [T::NONE; 16];
+        for i in 0..len.min(16) {
+            at[i] = T::read(self);
+        }
+        Sixteen { at, len }
+    }
+
+    pub fn ids(&mut self) -> Ids
+        ensures { length self.new.rest.now ≤ length self.old.rest.now }
+    {
+        self.list()
+    }
+
+    pub fn tiles(&mut self) -> Tiles
+        ensures { length self.new.rest.now ≤ length self.old.rest.now }
+    {
+        self.list()
+    }
+
+    pub fn reals(&mut self) -> Reals
+        ensures { length self.new.rest.now ≤ length self.old.rest.now }
+    {
+        self.list()
+    }
 }
 
 // Whether a real has these bits; of a NaN only that it is one.

@@ -16,4 +16,4 @@ calm_columns-requires c =
 pub returns : goal.returns
 returns c =
     let x = c.args in
-    λ v. calm-so x.root v x.heads.now x.ids.now x.shares.now x.minima.now c.requires (sym c.heads_over.ensures ∙ c.if-heads_over.false) c.calm_columns.result c.calm_columns.ensures
+    λ v. calm-so x.root v x.heads.now x.ids.now x.shares.now x.minima.now (c.told-heads, c.told-ids, c.told-shares, c.told-minima) (sym c.heads_over.ensures ∙ c.if-heads_over.false) c.calm_columns.result c.calm_columns.ensures

@@ -9,7 +9,7 @@ use Rattle.mending.proofs.mend.Goals as goal
 pub repair_columns-d-requires : goal.repair_columns-d-requires
 repair_columns-d-requires c =
     let a = c.args in
-    tidy-plain a.heads.now _ a.ids.now a.shares.now a.minima.now c.tidy_lent.ensures c.requires
+    tidy-plain a.heads.now _ a.ids.now a.shares.now a.minima.now c.tidy_lent.ensures (c.told-heads, c.told-ids, c.told-shares, c.told-minima)
 
 pub returns : goal.returns
 returns c =

@@ -1,30 +1,18 @@
 -- `tiling_c::tiling_apply`: codes that are none, or what the change of the columns came to. Assumes nothing.
-use mathlib.Core.Path.{◌≡◌, sym, ap, ◌∙◌}
-use mathlib.Core.Bool.{Bool, true, false, ◌&&◌}
+use mathlib.Core.Path.{◌≡◌, sym, ◌∙◌}
+use mathlib.Core.Bool.{true, ◌&&◌}
 use Rattle.coding.specs.Lent.{lot, lot_ok, op_ok}
 use Rattle.crossing.proofs.TidyLaws.{tidy-lent, tidy-plain}
 use Rattle.std.specs.Prelude.{get_or, Option}
 use Rattle.std.specs.Option.{unwrap_or}
 use Rattle.docking.specs.declared.AppliedIn.{AppliedIn}
-use Rattle.tiling_c.proofs.CallLaws.{applies-bad, applies-good}
+use Rattle.tiling_c.proofs.CallLaws.{applies-good}
 use Rattle.tiling_c.proofs.tiling_apply.Goals as goal
-
-pub returns-then-not-codes_ok : goal.returns-then-not-codes_ok
-returns-then-not-codes_ok c =
-    let a = c.args in
-    applies-bad (lot a.top.now a.heads.now a.ids.now a.shares.now a.minima.now) a.words.now a.fraction a.out.now (ap (λ (b : Bool). b && op_ok a.words.now) (sym c.codes_ok.ensures ∙ c.if-not-codes_ok.true))
-
-pub returns-then-not-op_ok : goal.returns-then-not-op_ok
-returns-then-not-op_ok c =
-    let a = c.args in
-    let g : lot_ok (lot a.top.now a.heads.now a.ids.now a.shares.now a.minima.now) ≡ true = sym c.codes_ok.ensures ∙ c.if-not-codes_ok.false in
-    let h : op_ok a.words.now ≡ false = sym c.op_ok.ensures ∙ c.if-not-op_ok.true in
-    applies-bad (lot a.top.now a.heads.now a.ids.now a.shares.now a.minima.now) a.words.now a.fraction a.out.now (λ z. g z && h z)
 
 pub apply_columns-done-requires : goal.apply_columns-done-requires
 apply_columns-done-requires c =
     let a = c.args in
-    tidy-plain a.heads.now _ a.ids.now a.shares.now a.minima.now c.tidy_lent.ensures c.sized.ensures
+    tidy-plain a.heads.now _ a.ids.now a.shares.now a.minima.now c.tidy_lent.ensures (c.told-heads, c.told-ids, c.told-shares, c.told-minima)
 
 pub returns : goal.returns
 returns c =

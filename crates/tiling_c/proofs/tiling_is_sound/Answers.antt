@@ -1,21 +1,15 @@
 -- `tiling_c::tiling_is_sound`: 5 for codes that are none, else 0 or 4. Assumes nothing.
 use mathlib.Core.Path.{refl, sym, ◌∙◌}
 use lib.ListN.{get_or}
-use Rattle.coding.specs.Lent.{lot, lent, codes_ok}
-use Rattle.rules.specs.Sound.{sound}
-use Rattle.tiling_c.proofs.CallLaws.{sound-bad, sound-is}
+use Rattle.coding.specs.Lent.{lot, lent}
+use Rattle.tiling_c.proofs.CallLaws.{sound-is}
 use Rattle.crossing.proofs.TidyLaws.{tidy-none, tidy-lent, tidy-plain}
 use Rattle.tiling_c.proofs.tiling_is_sound.Goals as goal
-
-pub returns-then-not-codes_ok : goal.returns-then-not-codes_ok
-returns-then-not-codes_ok c =
-    let a = c.args in
-    sound-bad (codes_ok a.heads.now) (sound (lent (lot a.top.now a.heads.now a.ids.now a.shares.now a.minima.now))) (sym c.codes_ok.ensures ∙ c.if-not-codes_ok.true)
 
 pub sound_number-requires : goal.sound_number-requires
 sound_number-requires c =
     let a = c.args in
-    tidy-plain a.heads.now c.tidy-plain.result a.ids.now a.shares.now a.minima.now c.tidy-plain.ensures c.sized.ensures
+    tidy-plain a.heads.now c.tidy-plain.result a.ids.now a.shares.now a.minima.now c.tidy-plain.ensures (c.told-heads, c.told-ids, c.told-shares, c.told-minima)
 
 pub returns-then-heads_over : goal.returns-then-heads_over
 returns-then-heads_over c =
@@ -26,7 +20,7 @@ returns-then-heads_over c =
 pub sound_number-requires-2 : goal.sound_number-requires-2
 sound_number-requires-2 c =
     let a = c.args in
-    tidy-plain a.heads.now a.heads.now a.ids.now a.shares.now a.minima.now (tidy-none a.heads.now c.heads_over.result c.heads_over.ensures c.if-heads_over.false) c.sized.ensures
+    tidy-plain a.heads.now a.heads.now a.ids.now a.shares.now a.minima.now (tidy-none a.heads.now c.heads_over.result c.heads_over.ensures c.if-heads_over.false) (c.told-heads, c.told-ids, c.told-shares, c.told-minima)
 
 pub returns : goal.returns
 returns c =

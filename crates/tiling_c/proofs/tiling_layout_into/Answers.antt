@@ -1,19 +1,14 @@
 -- `tiling_c::tiling_layout_into`: codes that are none, or what the layout answered. Assumes nothing.
 use mathlib.Core.Path.{refl, sym, ◌∙◌}
 use Rattle.coding.specs.Lent.{lot, lent}
-use Rattle.tiling_c.proofs.CallLaws.{lays-bad, lays-good}
+use Rattle.tiling_c.proofs.CallLaws.{lays-good}
 use Rattle.crossing.proofs.TidyLaws.{tidy-none, tidy-lent, tidy-plain}
 use Rattle.tiling_c.proofs.tiling_layout_into.Goals as goal
-
-pub returns-then-not-codes_ok : goal.returns-then-not-codes_ok
-returns-then-not-codes_ok c =
-    let a = c.args in
-    lays-bad (lot a.top.now a.heads.now a.ids.now a.shares.now a.minima.now) a.input.now a.items.now a.rects.now a.out.now (sym c.codes_ok.ensures ∙ c.if-not-codes_ok.true)
 
 pub lay-requires : goal.lay-requires
 lay-requires c =
     let a = c.args in
-    tidy-plain a.heads.now c.tidy-plain.result a.ids.now a.shares.now a.minima.now c.tidy-plain.ensures c.sized.ensures
+    tidy-plain a.heads.now c.tidy-plain.result a.ids.now a.shares.now a.minima.now c.tidy-plain.ensures (c.told-heads, c.told-ids, c.told-shares, c.told-minima)
 
 pub returns-then-heads_over : goal.returns-then-heads_over
 returns-then-heads_over c =
@@ -24,7 +19,7 @@ returns-then-heads_over c =
 pub lay-requires-2 : goal.lay-requires-2
 lay-requires-2 c =
     let a = c.args in
-    tidy-plain a.heads.now a.heads.now a.ids.now a.shares.now a.minima.now (tidy-none a.heads.now c.heads_over.result c.heads_over.ensures c.if-heads_over.false) c.sized.ensures
+    tidy-plain a.heads.now a.heads.now a.ids.now a.shares.now a.minima.now (tidy-none a.heads.now c.heads_over.result c.heads_over.ensures c.if-heads_over.false) (c.told-heads, c.told-ids, c.told-shares, c.told-minima)
 
 pub returns : goal.returns
 returns c =

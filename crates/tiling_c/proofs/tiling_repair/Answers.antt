@@ -3,21 +3,13 @@ use mathlib.Core.Path.{sym, ◌∙◌}
 use lib.ListN.{get_or}
 use Rattle.coding.specs.Lent.{lot}
 use Rattle.crossing.proofs.TidyLaws.{tidy-lent, tidy-plain}
-use Rattle.tiling_c.proofs.CallLaws.{repairs-bad, repairs-good}
+use Rattle.tiling_c.proofs.CallLaws.{repairs-good}
 use Rattle.tiling_c.proofs.tiling_repair.Goals as goal
-
-pub returns-then-not-codes_ok : goal.returns-then-not-codes_ok
-returns-then-not-codes_ok c =
-    let a = c.args in
-    repairs-bad (lot a.top.now a.heads.now a.ids.now a.shares.now a.minima.now) a.acts.now a.out.now (sym c.codes_ok.ensures ∙ c.if-not-codes_ok.true)
 
 pub repair_columns-d-requires : goal.repair_columns-d-requires
 repair_columns-d-requires c =
     let a = c.args in
-    tidy-plain a.heads.now _ a.ids.now a.shares.now a.minima.now c.tidy_lent.ensures c.sized.ensures
-
-pub write-requires : goal.write-requires
-write-requires c = c.repair_columns-d.ensures.left.count
+    tidy-plain a.heads.now _ a.ids.now a.shares.now a.minima.now c.tidy_lent.ensures (c.told-heads, c.told-ids, c.told-shares, c.told-minima)
 
 pub returns : goal.returns
 returns c =

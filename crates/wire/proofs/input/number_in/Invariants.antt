@@ -1,10 +1,6 @@
--- At most ten bytes are read, and the reader only goes on.
-use Rattle.std.proofs.Common.{◌≤◌, ◌-◌}
+-- `wire::input::number_in`: the reader only goes on. Assumes nothing.
 use Rattle.wire.specs.Passing.{Passes}
 use Rattle.wire.proofs.input.number_in.Given as goal
 
-abbrev pub invariant-loop-shift : goal.invariant-loop-shift
-invariant-loop-shift g l = (l.shift ≤ 70) × Passes (g.R.Read.remaining l.initial.input) (g.R.Read.remaining l.input)
-
-abbrev pub decreases-loop-shift : goal.decreases-loop-shift
-decreases-loop-shift g l = 70 - l.shift
+abbrev pub invariant-loop-k : goal.invariant-loop-k
+invariant-loop-k g l = Passes (g.R.Read.remaining l.fn.input) (g.R.Read.remaining l.input)
