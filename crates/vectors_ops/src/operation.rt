@@ -1,5 +1,7 @@
 // An operation as docs/VECTORS.md writes it. A kind that is none of the table's reads as the last.
-use rules::model::{Placement, TileId};
+ghost use Rattle.std.specs.Prelude.{◌≤◌, length};
+
+use rules::model::Placement;
 use rules::operation::{DockTarget, TileOp};
 use wire::{Reader, tree};
 
@@ -18,7 +20,9 @@ fn index(given: u64, n: u64) -> Option<usize> {
 }
 
 // The root; beside a tile, with the axis, the placement and the ratio; or into a group, with whether an index is given, and the index.
-fn target(body: &mut Reader) -> DockTarget {
+fn target(body: &mut Reader) -> DockTarget
+    ensures { length body.new.rest.now ≤ length body.old.rest.now }
+{
     match body.number() {
         0 => DockTarget::Root,
         1 => DockTarget::Split {
@@ -34,7 +38,9 @@ fn target(body: &mut Reader) -> DockTarget {
     }
 }
 
-pub fn operation(body: &mut Reader) -> TileOp {
+pub fn operation(body: &mut Reader) -> TileOp
+    ensures { length body.new.rest.now ≤ length body.old.rest.now }
+{
     match body.number() {
         0 => TileOp::ActivatePane {
             pane: body.number(),

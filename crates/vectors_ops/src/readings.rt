@@ -25,10 +25,7 @@ fn own_group() -> bool {
     let t = cases::with(cases::row(2), 1, slots::top_group(1));
     let wanted = cases::at_revision(t, 8);
     let group = TileId { slot: 1 };
-    let target = DockTarget::TabInto {
-        group,
-        index: None,
-    };
+    let target = DockTarget::TabInto { group, index: None };
     let op = TileOp::MovePane { pane: 1, target };
     cases::gives(t, op, wanted)
 }
