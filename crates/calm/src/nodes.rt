@@ -1,4 +1,5 @@
 // A tile and a split, read only: a tile's reading calls a split's, which calls back. Depth falls from tile to tile.
+// Kept: the four columns are four parameters (why: columns/src/lib.rt).
 ghost use Rattle.std.specs.Prelude.{◌≡◌, List, map, [], ℕ, ◌+◌, ◌*◌, ◌≤◌, ◌<◌, Float, length, take, get_or};
 ghost use Rattle.rules.specs.Tree.{tile, node_at};
 ghost use Rattle.rules.specs.Repair.{melts};

@@ -1,4 +1,5 @@
 // The whole walk: from the root, and then whether an occupied slot was left out.
+// Kept: the four columns are four parameters (why: columns/src/lib.rt).
 ghost use Rattle.std.specs.Prelude.{◌≡◌, false, [], ℕ, get_or, replicate};
 ghost use Rattle.rules.specs.Tree.{tile};
 ghost use Rattle.columns.specs.Columns.{nodes_from, Slim};

@@ -1,4 +1,5 @@
 // The operations but reorder_tab: the Rust's activate_pane, close_pane, split_pane, move_pane and insert_tile_at_target.
+// Kept: the four columns are four parameters (why: columns/src/lib.rt).
 ghost use Rattle.rules.specs.Tree.{Arena, node_at, set_node};
 ghost use Rattle.rules.specs.Target.{in_tabs};
 ghost use Rattle.rules.specs.Insert.{draft};

@@ -1,4 +1,5 @@
 // A pane moved within its group: the Rust's reorder_tab.
+// Kept: the four columns are four parameters (why: columns/src/lib.rt).
 ghost use Rattle.std.specs.Prelude.{◌≡◌, false, ◌<◌, length};
 ghost use Rattle.std.proofs.Math.Option.{some};
 ghost use Rattle.rules.specs.Tree.{Arena, view_slot, over_slot, panes_of};

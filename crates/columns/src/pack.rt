@@ -1,4 +1,5 @@
 // From columns to slots.
+// Kept: the four columns are four parameters (why: columns/src/lib.rt).
 ghost use Rattle.std.specs.Prelude.{◌≡◌, [], map, ltb, length, get_or, take, ◌<◌};
 ghost use Rattle.rules.specs.Lists.{any_of};
 ghost use Rattle.rules.specs.Tree.{Node, empty, tile, view_slot, over_slot};

@@ -1,4 +1,5 @@
 // From slots to columns, and the test of lists given too long.
+// Kept: the four columns are four parameters (why: columns/src/lib.rt).
 ghost use Rattle.std.specs.Prelude.{◌≡◌, map, ◌<◌};
 ghost use Rattle.rules.specs.Lists.{any_of};
 ghost use Rattle.rules.specs.Tree.{bar_code, axis_code};

@@ -22,6 +22,7 @@ pub struct AppliedIn {
 }
 
 // What an operation answers: the changed tree; or the tree as given, where it was refused or nothing changed.
+// Kept: a refusal hands back the tree too (`apply`'s clause `result.tree ≡ t`), so the answer stands beside it.
 #[derive(Clone, Copy)]
 pub struct Applying {
     pub answer: Answer,

@@ -1,5 +1,6 @@
 // Putting a tile beside another: the Rust's insert_tile_near. The columns hold the tree's slots, or those with a pane taken out; the spare slots are those
 // that were empty when the call began.
+// Kept: the four columns are four parameters (why: columns/src/lib.rt).
 ghost use Rattle.std.specs.Prelude.{◌≡◌, false};
 ghost use Rattle.rules.specs.Tree.{Arena, view_slot, over_slot};
 ghost use Rattle.rules.specs.Insert.{draft, same_axis_parent};

@@ -1,4 +1,5 @@
 // A spec's tree before its repair, in columns: the Rust's `from_spec` (tree.rs) up to `normalize`, with document 01's refusals in their order.
+// Kept: the four columns are four parameters (why: columns/src/lib.rt).
 ghost use Rattle.std.specs.Prelude.{◌≡◌};
 ghost use Rattle.rules.specs.Tree.{arena, tile};
 ghost use Rattle.rules.specs.Spec.{built_nodes};

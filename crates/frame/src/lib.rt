@@ -13,6 +13,7 @@ pub mod sorting;
 pub mod whole;
 
 // One of the Rust's growing lists, in N places.
+// Kept: places with a length beside them, and no Vec: the library uses no heap.
 #[derive(Clone, Copy)]
 pub struct FrameList<T, const N: usize> {
     pub at: [T; N],
@@ -35,6 +36,7 @@ pub type FocusOrder = FrameList<u64, 1024>;
 pub type PaintOrder = FrameList<FrameItemId, 1216>;
 
 // What a layout answers: the frame of a revision; or a refusal, and empty lists.
+// Kept: a refusal has a revision and empty lists too (`layout`'s clause on `view_layout`), so the answer stands beside them.
 #[derive(Clone, Copy)]
 pub struct Layout {
     pub answer: Answer,

@@ -1,4 +1,5 @@
 // The parts of normalize_split that call nothing back: bad lists noted, a child that came back placed, and the split stored again.
+// Kept: the four columns are four parameters (why: columns/src/lib.rt).
 ghost use Rattle.std.specs.Prelude.{[], ◌≡◌, ℕ, ◌+◌, ◌≤◌, ◌<◌, get_or, set, is_none, unwrap_or};
 ghost use Rattle.columns.specs.Columns.{Slim};
 ghost use Rattle.melting.specs.Splits.{BadNoted, kids_in, Lent, PlacesIn, ClosesIn, empty_head, Stored};

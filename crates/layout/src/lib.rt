@@ -8,6 +8,7 @@ use rules::refusal::Answer;
 pub mod whole;
 
 // What a layout over lent arrays answers: how many entries of them are in use, 0 if refused.
+// Kept: a refusal has a revision and no entries too (`LaysOut`, its clauses `right` and `untouched`), so the answer stands beside them.
 #[derive(Clone, Copy)]
 pub struct LaidOut {
     pub answer: Answer,

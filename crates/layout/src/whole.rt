@@ -1,4 +1,5 @@
 // The whole of a layout over lent arrays: the Rust's layout.
+// Kept: the four columns are four parameters (why: columns/src/lib.rt).
 ghost use Rattle.std.specs.Prelude.{◌≡◌, Bool};
 ghost use Rattle.rules.specs.Tree.{view};
 ghost use Rattle.rules.specs.Sound.{sound};

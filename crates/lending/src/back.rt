@@ -1,4 +1,5 @@
 // What a call leaves in the lent arrays: the columns that it made there, in codes that every call takes, or those that were lent.
+// Kept: the four columns are four parameters (why: columns/src/lib.rt).
 ghost use Rattle.std.specs.Prelude.{◌≡◌, List, ℕ, Float};
 ghost use Rattle.rules.specs.Tree.{bar_code, axis_code};
 ghost use Rattle.columns.specs.Columns.{bar_from, axis_from};

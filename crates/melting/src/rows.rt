@@ -1,4 +1,5 @@
 // A split's lists: loaded from its slot and mended, by value; the children that are kept placed one by one or melted in, in three lent arrays.
+// Kept: the four columns are four parameters (why: columns/src/lib.rt).
 ghost use Rattle.std.specs.Prelude.{◌≡◌, Bool, List, [], ◌∷◌, map, ℕ, ◌+◌, ◌≤◌, ◌<◌, get_or, set, is_none, unwrap_or, Float};
 ghost use Rattle.rules.specs.Repair.{entry, melts, scaled};
 ghost use Rattle.rules.specs.Tree.{tile, same_axis};

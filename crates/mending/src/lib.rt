@@ -1,4 +1,5 @@
 // Repair of lent arrays: the arena in its columns, its actions in the list that is lent, the answer told.
+// Kept: the four columns are four parameters (why: columns/src/lib.rt).
 #![tactic(auto)]
 
 ghost use Rattle.std.specs.Prelude.{◌≡◌, true, not, ◌&&◌, List, ℕ};

@@ -1,4 +1,5 @@
 // Slots read, written, taken and made: the Rust's get_node, set_node and push_node.
+// Kept: the four columns are four parameters (why: columns/src/lib.rt).
 ghost use Rattle.std.specs.Prelude.{◌≡◌, false, List, [], ◌∷◌, ℕ, suc, ◌<◌, Float, length, drop, IfSome};
 ghost use Rattle.rules.specs.Tree.{Node, view_slot, over_slot, node_at, set_node, empty_from, empty_slots};
 ghost use Rattle.rules.specs.declared.model.TabBarPlacement.TheVariants as Bars;

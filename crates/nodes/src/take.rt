@@ -1,4 +1,5 @@
 // Taking a pane out: the Rust's remove_pane.
+// Kept: the four columns are four parameters (why: columns/src/lib.rt).
 ghost use Rattle.std.specs.Prelude.{◌≡◌, false, ◌<◌, length};
 ghost use Rattle.rules.specs.Tree.{view_slot, over_slot, panes_of};
 ghost use Rattle.rules.specs.Insert.{active_after, removed_from, remove_pane};

@@ -1,4 +1,5 @@
 // Whether a dock target is good: the Rust's validate_target.
+// Kept: the four columns are four parameters (why: columns/src/lib.rt).
 ghost use Rattle.std.specs.Prelude.{◌≡◌};
 ghost use Rattle.rules.specs.Tree.{view_slot};
 ghost use Rattle.rules.specs.Target.{existing, a_group, validate_target};

@@ -1,4 +1,5 @@
 // normalize_node and normalize_split: a tile's repair calls a split's repair, which calls back. Slots that are not claimed grow fewer.
+// Kept: the four columns are four parameters (why: columns/src/lib.rt).
 ghost use Rattle.std.specs.Prelude.{[], ◌≡◌, Bool, ◌+◌, ◌*◌, ◌≤◌, ◌<◌, get_or};
 ghost use Rattle.forest.specs.Lists.{free};
 ghost use Rattle.sifting.specs.Work.{cols, Sized};

@@ -1,4 +1,5 @@
 // What follows an operation: refusals 11 and 3 after repair, the revision, and the repair itself (the Rust's apply, 225 to 238).
+// Kept: the four columns are four parameters (why: columns/src/lib.rt).
 ghost use Rattle.std.specs.Prelude.{◌≡◌, List, ℕ};
 ghost use Rattle.rules.specs.Tree.{Arena};
 ghost use Rattle.rules.specs.Operations.{Step};
@@ -23,7 +24,8 @@ pub fn answer_of(done: Result<Option<AppliedIn>, Refusal>) -> Answer
     }
 }
 
-// A spare slot as settle takes it: 64 stands for none.
+// A spare slot as settle takes it.
+// Kept: 64 for none is the rules' word `first_of`, in which `Settles`, the clause of `settling::settle::settle`, takes the spare slot.
 fn number_of(spare: Option<TileId>) -> u64
     ensures { (free : List ℕ) → spare ≡ first_slot free → result ≡ first_of free }
 {

@@ -1,4 +1,5 @@
 // The public call: the Rust's apply and apply_inner.
+// Kept: the four columns are four parameters (why: columns/src/lib.rt).
 ghost use Rattle.std.specs.Prelude.{◌≡◌, true};
 ghost use Rattle.rules.specs.Tree.{Arena, view};
 ghost use Rattle.rules.specs.Sound.{sound};

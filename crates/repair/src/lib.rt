@@ -8,6 +8,7 @@ use rules::refusal::Answer;
 pub mod whole;
 
 // What a repair answers: the repaired tree and what was done; or the tree as given, and nothing.
+// Kept: a refusal hands back the tree too (`repair`'s clause `result.tree ≡ t`), so the answer stands beside it.
 #[derive(Clone, Copy)]
 pub struct Repairing {
     pub answer: Answer,

@@ -1,4 +1,5 @@
 // The whole of a repair of a tree: the Rust's repair; and soundness.
+// Kept: the four columns are four parameters (why: columns/src/lib.rt).
 ghost use Rattle.std.specs.Prelude.{◌≡◌, ℕ};
 ghost use Rattle.rules.specs.Tree.{view};
 ghost use Rattle.rules.specs.Repair as Rule;

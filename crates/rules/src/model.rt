@@ -7,6 +7,7 @@ pub struct TileId {
 }
 
 // A growing list of the Rust: 16 places, of which the first `len` are in use. A length over 16 may come in.
+// Kept: places with a length beside them, and no Vec: the library uses no heap.
 #[derive(Clone, Copy)]
 pub struct Sixteen<T> {
     pub at: [T; 16],

@@ -12,6 +12,7 @@ pub struct Kid {
 }
 
 // What `solve` answers: the lengths and the number of passes, or a refusal with no lengths and no passes.
+// Kept: a refusal has empty lengths too (`solve`'s clauses on `view_solution` and `Clear`), so the answer stands beside them.
 #[derive(Clone, Copy)]
 pub struct Solution {
     pub answer: Answer,

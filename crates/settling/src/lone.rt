@@ -1,4 +1,5 @@
 // The one sound tree that repair would alter: its only occupied slot is the root, an empty Hidden group with active 0.
+// Kept: the four columns are four parameters (why: columns/src/lib.rt).
 ghost use Rattle.std.specs.Prelude.{◌≡◌, [], ℕ, ◌<◌, length, get_or};
 ghost use Rattle.rules.specs.Sound.{lone_empty_root};
 ghost use Rattle.columns.specs.Shown.{arena_from, Plain};

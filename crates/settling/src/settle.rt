@@ -1,4 +1,5 @@
 // Repair of an arena's columns in place. A refused one may leave them half done: who must have them as they were keeps a copy.
+// Kept: the four columns are four parameters (why: columns/src/lib.rt).
 ghost use Rattle.std.specs.Prelude.{◌≡◌, Bool, ◌+◌, ◌≤◌};
 ghost use Rattle.rules.specs.Lists.{any_of};
 ghost use Rattle.columns.specs.Pack.{over_head};

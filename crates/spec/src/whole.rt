@@ -1,4 +1,5 @@
 // The Rust's `from_spec` (tree.rs) whole: the spec's tree, repaired. It is made and repaired in columns, and packed at the end.
+// Kept: the four columns are four parameters (why: columns/src/lib.rt).
 ghost use Rattle.std.specs.Prelude.{◌≡◌, ◌∷◌, replicate};
 ghost use Rattle.rules.specs.Tree.{arena, tile, empty, empty_group};
 ghost use Rattle.rules.specs.Spec.{from_spec};

@@ -2,6 +2,7 @@
 // An arena is `top` (root, revision) and the four columns of the crate columns. Each call returns document 01's number, 0 where it is accepted, and writes
 // `out`: the two details, and a count (actions, items of a frame, lengths) with what stands beside it. A number that is no kind, mode, axis, placement or
 // operation is refused with 5, and then nothing is written.
+// Kept: the four columns are four parameters (why: columns/src/lib.rt).
 #![tactic(auto)]
 
 ghost use Rattle.std.specs.Prelude.{◌≡◌, true, ℕ};
@@ -19,6 +20,7 @@ use lending::back::{self, Kept};
 use rules::frame::LayoutInput;
 
 // What a number that names nothing is answered with: document 01's 'bad input'.
+// Kept: C reads a number.
 const BAD_INPUT: u64 = 5;
 
 // A tree from a spec table. A refused one writes the lone empty root.
