@@ -8,93 +8,88 @@ use std::io;
 use std::io::Print;
 
 // Bytes written so far.
-#[derive(Clone, Copy)]
+#[derive(Drop)]
 struct Written {
     at: [u8; 2048],
     len: usize,
 }
 
-fn nothing() -> Written {
-    let at = [0u8; 2048];
-    Written { at, len: 0 }
-}
-
-// One byte more; none past the end.
-fn put(w: Written, x: u8) -> Written {
-    let len = w.len;
-    if 2048 <= len {
-        return w;
+impl Written {
+    fn new() -> Written {
+        Written {
+            at: [0u8; 2048],
+            len: 0,
+        }
     }
-    let mut at = w.at;
-    at[len] = x;
-    Written { at, len: len + 1 }
-}
 
-// Numbers of 16, 32 and 64 bits, the low byte first.
-fn two(w: Written, n: u64) -> Written {
-    let low = put(w, (n % 256) as u8);
-    put(low, (n / 256 % 256) as u8)
-}
-
-fn four(w: Written, n: u64) -> Written {
-    let low = two(w, n % 65536);
-    two(low, n / 65536)
-}
-
-fn eight(w: Written, n: u64) -> Written {
-    let low = four(w, n % 4294967296);
-    four(low, n / 4294967296)
-}
-
-// A row: kind, mode, count, extra, minima.
-fn row(w: Written, kind: u8, mode: u8, count: u64, extra: u64, minima: u64) -> Written {
-    let a = put(w, kind);
-    let b = put(a, mode);
-    let c = two(b, count);
-    let d = two(c, extra);
-    two(d, minima)
-}
-
-// What is repeated: a pane's row, a pane's number, a share.
-#[derive(Clone, Copy)]
-enum Item {
-    Row,
-    Number,
-    Share,
-}
-
-// The k-th of a kind; a share is 1.0.
-fn one_item(w: Written, what: Item, k: u64) -> Written {
-    match what {
-        Item::Row => row(w, 0, 0, 1, 0, 0),
-        Item::Number => eight(w, k),
-        Item::Share => eight(w, 0x3ff0_0000_0000_0000),
+    // One byte more; none past the end.
+    fn put(&mut self, x: u8) {
+        if self.len < 2048 {
+            self.at[self.len] = x;
+            self.len += 1;
+        }
     }
-}
 
-// n of a kind, the last first.
-fn items(w: Written, what: Item, n: u64) -> Written {
-    let mut v = w;
-    let mut left = n;
-    while 0 < left {
-        let next = one_item(v, what, left);
-        v = next;
-        left -= 1;
+    // Numbers of 16, 32 and 64 bits, the low byte first.
+    fn two(&mut self, n: u64) {
+        self.put((n % 256) as u8);
+        self.put((n / 256 % 256) as u8);
     }
-    v
-}
 
-// n vertical splits of m panes each.
-fn split_rows(w: Written, n: u64, m: u64) -> Written {
-    let mut v = w;
-    let mut left = n;
-    while 0 < left {
-        let head = row(v, 2, 1, m, m, 0);
-        let next = items(head, Item::Row, m);
-        v = next;
-        left -= 1;
+    fn four(&mut self, n: u64) {
+        self.two(n % 65536);
+        self.two(n / 65536);
     }
-    v
+
+    fn eight(&mut self, n: u64) {
+        self.four(n % 4294967296);
+        self.four(n / 4294967296);
+    }
+
+    // A row: kind, mode, count, extra, minima.
+    fn row(&mut self, kind: u8, mode: u8, count: u64, extra: u64, minima: u64) {
+        self.put(kind);
+        self.put(mode);
+        self.two(count);
+        self.two(extra);
+        self.two(minima);
+    }
+
+    // n rows of panes.
+    fn panes(&mut self, n: u64) {
+        for _ in 0..n {
+            self.row(0, 0, 1, 0, 0);
+        }
+    }
+
+    // n vertical splits of m panes each.
+    fn splits(&mut self, n: u64, m: u64) {
+        for _ in 0..n {
+            self.row(2, 1, m, m, 0);
+            self.panes(m);
+        }
+    }
+
+    // How many panes there are, and their numbers, the last first.
+    fn numbers(&mut self, n: u64) {
+        self.four(n);
+        for k in 0..n {
+            self.eight(n - k);
+        }
+    }
+
+    // How many shares there are, each of them 1.0.
+    fn shares(&mut self, n: u64) {
+        self.four(n);
+        for _ in 0..n {
+            self.eight(0x3ff0_0000_0000_0000);
+        }
+    }
+
+    // The number of the answer to the bytes so far.
+    fn answer(&self) -> u64 {
+        answer_of(&self.at, self.len)
+    }
 }
 
 // A horizontal split of some panes and then n vertical splits of m panes each, all of them; the first child has a minimum, 5.0.
@@ -102,64 +97,41 @@ fn grid(panes: u64, n: u64, m: u64, all: u64) -> Written
     requires { (panes ≤ 20) × (n ≤ 20) × (all ≤ 400) }
 {
     let kids = panes + n;
-    let rows = four(nothing(), 1 + kids + all);
-    let root = row(rows, 2, 0, kids, kids, 1);
-    let plain = items(root, Item::Row, panes);
-    let under = split_rows(plain, n, m);
-    let names = items(four(under, panes + all), Item::Number, panes + all);
-    let shares = items(four(names, kids + all), Item::Share, kids + all);
-    eight(four(shares, 1), 0x4014_0000_0000_0000)
-}
-
-// The number of what the library answers.
-fn answer_to(b: &[u8]) -> u64 {
-    let d = spec::whole::from_spec(b);
-    let answer = d.answer;
-    let told = answers::Told::from(answer);
-    told.number
+    let mut w = Written::new();
+    w.four(1 + kids + all);
+    w.row(2, 0, kids, kids, 1);
+    w.panes(panes);
+    w.splits(n, m);
+    w.numbers(panes + all);
+    w.shares(kids + all);
+    w.four(1);
+    w.eight(0x4014_0000_0000_0000);
+    w
 }
 
 // The number of the answer to the first n bytes; 99 where there are fewer.
 fn answer_of(buf: &[u8], n: usize) -> u64 {
-    if buf.len() < n {
-        return 99;
+    match buf.get(..n) {
+        Some(b) => answers::Told::from(spec::whole::from_spec(b).answer).number,
+        None => 99,
     }
-    let b = &buf[..n];
-    answer_to(b)
-}
-
-fn one_if(yes: bool) -> u64
-    ensures { result ≤ 1 }
-{
-    if yes { 1 } else { 0 }
 }
 
 // How many of the first n beginnings of the bytes, each shorter than n, are refused with 1.
-fn beginnings(buf: &[u8], n: usize) -> u64 {
-    let mut found = 0u64;
-    let mut k = 0usize;
-    while k < n {
-        let number = answer_of(buf, k);
-        found += one_if(number == 1);
-        k += 1;
-    }
-    found
+fn beginnings(buf: &[u8], n: usize) -> usize {
+    (0..n).filter(|k| answer_of(buf, *k) == 1).count()
 }
 
 // 100,000 rows that are good by the row rules: splits of one child each, one under the other, and at last an empty group.
-fn chain(zeros: [u8; 800016]) -> [u8; 800016] {
-    let mut b = zeros;
+fn chain(b: &mut [u8; 800016]) {
     b[0] = 160;
     b[1] = 134;
     b[2] = 1;
-    let mut i = 0usize;
-    while i < 99999 {
+    for i in 0..99999 {
         b[4 + 8 * i] = 2;
         b[6 + 8 * i] = 1;
-        i += 1;
     }
     b[799996] = 1;
-    b
 }
 
 fn line(rt: &impl Print, label: &[u8], n: u64) -> io::Result<()> {
@@ -167,27 +139,19 @@ fn line(rt: &impl Print, label: &[u8], n: u64) -> io::Result<()> {
     println!(rt; "{n}")
 }
 
-// A grid's answer.
-fn show_grid(rt: &impl Print, label: &[u8], w: Written) -> io::Result<()> {
-    let at = w.at;
-    line(rt, label, answer_of(&at, w.len))
-}
-
 // The beginnings of a grid of 64 rows.
-fn show_beginnings(rt: &impl Print, w: Written) -> io::Result<()> {
-    let at = w.at;
-    let n = w.len;
-    line(rt, b"bytes of a good table: ", n as u64)?;
+fn show_beginnings(rt: &impl Print, w: &Written) -> io::Result<()> {
+    line(rt, b"bytes of a good table: ", w.len as u64)?;
     line(
         rt,
         b"its proper beginnings refused with 1: ",
-        beginnings(&at, n),
+        beginnings(&w.at, w.len) as u64,
     )
 }
 
 fn show_chain(rt: &impl Print) -> io::Result<()> {
-    let zeros = [0u8; 800016];
-    let mut b = chain(zeros);
+    let mut b = [0u8; 800016];
+    chain(&mut b);
     line(rt, b"100000 rows: ", answer_of(&b, 800016))?;
     b[799996] = 3;
     line(
@@ -198,10 +162,10 @@ fn show_chain(rt: &impl Print) -> io::Result<()> {
 }
 
 fn main(rt: HostRuntime) -> io::Result<()> {
-    show_grid(&rt, b"64 rows: ", grid(0, 7, 8, 56))?;
-    show_grid(&rt, b"65 rows: ", grid(1, 7, 8, 56))?;
-    show_grid(&rt, b"16 children: ", grid(16, 0, 0, 0))?;
-    show_grid(&rt, b"17 children: ", grid(17, 0, 0, 0))?;
+    line(&rt, b"64 rows: ", grid(0, 7, 8, 56).answer())?;
+    line(&rt, b"65 rows: ", grid(1, 7, 8, 56).answer())?;
+    line(&rt, b"16 children: ", grid(16, 0, 0, 0).answer())?;
+    line(&rt, b"17 children: ", grid(17, 0, 0, 0).answer())?;
     show_chain(&rt)?;
-    show_beginnings(&rt, grid(0, 7, 8, 56))
+    show_beginnings(&rt, &grid(0, 7, 8, 56))
 }
