@@ -7,6 +7,7 @@ use rules::frame::{LayoutInput, Rect, Size};
 use rules::model::{Placement, TileId};
 use rules::operation::{DockTarget, TileOp};
 
+// Kept: a `From<u64>` of `Placement` stands in `rules` or nowhere, and this reading by `placement_from` is that of the calls for C.
 fn placement_of(n: u64) -> Placement
     ensures { result ≡ placement_from n }
 {

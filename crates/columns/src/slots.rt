@@ -1,13 +1,8 @@
-// How many slots a tree has and how many places a row, which only what is by value tells; and which slot is empty.
+// How many places a row has, which only a row by value tells; and which slot is empty.
 ghost use Rattle.std.specs.Prelude.{◌≡◌, length};
 ghost use Rattle.rules.specs.Tree.{view_slot, is_empty};
 
 use rules::model::{Kind, Slot};
-
-// The slots of a tree are 64.
-pub fn sized(slots: [Slot; 64])
-    ensures { length slots ≡ 64 }
-{}
 
 // A row has 16 places.
 // Kept: a lent array of rows does not tell theirs: `length (get_or ids.now root []) ≡ 16` stays open in `lone::root_row` with no call that takes the row by value.

@@ -2,32 +2,9 @@
 // Kept: the four columns are four parameters (why: columns/src/lib.rt).
 ghost use Rattle.std.specs.Prelude.{◌≡◌, map, ◌<◌};
 ghost use Rattle.rules.specs.Lists.{any_of};
-ghost use Rattle.rules.specs.Tree.{bar_code, axis_code};
 ghost use Rattle.columns.specs.Pack.{Unpacks, Puts, over_head, slot_of, head_of, ids_of};
 
-use rules::model::{Axis, Kind, Slot, TabBarPlacement, TileId};
-
-// The number of a group's placement in its head.
-pub fn bar_code(b: TabBarPlacement) -> u64
-    ensures { result ≡ bar_code b }
-{
-    match b {
-        TabBarPlacement::Hidden => 0,
-        TabBarPlacement::Top => 1,
-        TabBarPlacement::Bottom => 2,
-        TabBarPlacement::Left => 3,
-        TabBarPlacement::Right => 4,
-    }
-}
-
-fn axis_code(a: Axis) -> u64
-    ensures { result ≡ axis_code a }
-{
-    match a {
-        Axis::Horizontal => 0,
-        Axis::Vertical => 1,
-    }
-}
+use rules::model::{Kind, Slot, TileId};
 
 // A slot's head: the lengths that its kind does not use are 0.
 fn head_of(s: Slot) -> [u64; 8]
@@ -36,19 +13,10 @@ fn head_of(s: Slot) -> [u64; 8]
     match s.kind {
         Kind::Empty => [0; 8],
         Kind::Pane(p) => [1, 0, p, 0, 0, 0, 0, 0],
-        Kind::Tabs(b) => [
-            2,
-            bar_code(b),
-            0,
-            s.active as u64,
-            s.panes.len as u64,
-            0,
-            0,
-            0,
-        ],
+        Kind::Tabs(b) => [2, b as u64, 0, s.active as u64, s.panes.len as u64, 0, 0, 0],
         Kind::Split(a) => [
             3,
-            axis_code(a),
+            a as u64,
             0,
             0,
             s.children.len as u64,

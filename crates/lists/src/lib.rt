@@ -2,7 +2,7 @@
 // A list that is made afresh has blanks past its length, and `push` and `replace`, which work in place, leave them there.
 #![tactic(auto)]
 
-ghost use Rattle.std.specs.Prelude.{◌≡◌, [], ◌≤◌, ◌<◌, leb, get_or, replicate, take};
+ghost use Rattle.std.specs.Prelude.{◌≡◌, [], ◌∷◌, ◌≤◌, ◌<◌, leb, get_or, replicate, take};
 ghost use Rattle.rules.specs.Lists.{insert_at, remove_at};
 ghost use Rattle.rules.specs.Lists as Rule;
 ghost use Rattle.rules.specs.Tree.{listed};
@@ -136,6 +136,15 @@ pub fn repeat<T: Blank>(n: usize, x: T) -> Sixteen<T>
     let mut at = [T::blank(); 16];
     at[..n].copy_from_slice(&all[..n]);
     Sixteen { at, len: n }
+}
+
+// `vec![a, b]`
+pub fn two<T: Blank>(a: T, b: T) -> Sixteen<T>
+    ensures { Exactly T.blank result.at result.len (a ∷ b ∷ []) }
+{
+    let none = empty();
+    let one = push(none, a);
+    push(one, b)
 }
 
 // `iter().position(|y| y == x)`

@@ -3,14 +3,13 @@
 ghost use Rattle.std.specs.Prelude.{◌≡◌, false, List, [], ◌∷◌, ℕ, suc, ◌<◌, Float, length, drop, IfSome};
 ghost use Rattle.rules.specs.Tree.{Node, view_slot, over_slot, node_at, set_node, empty_from, empty_slots};
 ghost use Rattle.rules.specs.declared.model.TabBarPlacement.TheVariants as Bars;
-ghost use Rattle.lists.specs.Exact.{IsTiles, IsReals};
 ghost use Rattle.columns.specs.Columns.{nodes_from};
 ghost use Rattle.columns.specs.Pack.{Even};
 ghost use Rattle.nodes.specs.Parts.{first_slot, Spared};
 
 use crate::Spares;
 use columns::{pack, unpack};
-use rules::model::{Kind, Reals, Slot, TabBarPlacement, TileId, Tiles};
+use rules::model::{Kind, Slot, TabBarPlacement, TileId};
 
 // get_node, and the one place that resolves a tile id: one past the slots reads as empty.
 pub fn get_node(
@@ -105,22 +104,4 @@ pub fn top_group(pane: u64) -> Slot
     s.active = 0;
     s.panes = panes;
     s
-}
-
-// vec![a, b], of tiles
-pub fn two_tiles(a: TileId, b: TileId) -> Tiles
-    ensures { IsTiles result (a ∷ b ∷ []) }
-{
-    let none = lists::empty();
-    let one = lists::push(none, a);
-    lists::push(one, b)
-}
-
-// vec![a, b], of shares
-pub fn two_reals(a: f64, b: f64) -> Reals
-    ensures { IsReals result (a ∷ b ∷ []) }
-{
-    let none = lists::empty();
-    let one = lists::push(none, a);
-    lists::push(one, b)
 }

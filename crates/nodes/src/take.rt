@@ -40,8 +40,6 @@ fn removed_from(s: Slot, index: usize) -> Slot
     let k = s.kind;
     let panes = s.panes;
     match k {
-        Kind::Empty => s,
-        Kind::Pane(_) => s,
         Kind::Tabs(_) => {
             let left = lists::remove(panes, index);
             let mut r = s;
@@ -49,7 +47,7 @@ fn removed_from(s: Slot, index: usize) -> Slot
             r.panes = left;
             r
         }
-        Kind::Split(_) => s,
+        _ => s,
     }
 }
 

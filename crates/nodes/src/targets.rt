@@ -30,9 +30,8 @@ fn is_group(s: Slot) -> Result<(), Refusal>
     let k = s.kind;
     match k {
         Kind::Empty => Err(Refusal::InvalidTileId),
-        Kind::Pane(_) => Err(Refusal::InvalidTarget),
         Kind::Tabs(_) => Ok(()),
-        Kind::Split(_) => Err(Refusal::InvalidTarget),
+        _ => Err(Refusal::InvalidTarget),
     }
 }
 

@@ -3,30 +3,15 @@ ghost use Rattle.std.specs.Prelude.{◌≡◌, false, [], ◌∷◌, ◌≤◌, 
 ghost use Rattle.rules.specs.Numbers.{hundredth};
 ghost use Rattle.rules.specs.Numbers as Numbers;
 ghost use Rattle.rules.specs.Tree as Tree;
-ghost use Rattle.rules.specs.Tree.{view_slot, over_slot, same_axis};
+ghost use Rattle.rules.specs.Tree.{view_slot, over_slot};
 ghost use Rattle.rules.specs.Insert.{insert_index, inserted_share, target_share, divided_shares, inserted_in, has_axis, new_split, replaced_in};
 ghost use Rattle.lists.specs.Exact.{IsReals};
 ghost use Rattle.nodes.specs.Parts.{beside_of};
 
 use columns::pack;
-use nodes::{Beside, slots};
+use nodes::Beside;
 use rules::model::{Axis, Kind, Placement, Reals, Slot, TileId};
 use util::{minima, shares};
-
-fn same_axis(a: Axis, b: Axis) -> bool
-    ensures { result ≡ same_axis a b }
-{
-    match a {
-        Axis::Horizontal => match b {
-            Axis::Horizontal => true,
-            Axis::Vertical => false,
-        },
-        Axis::Vertical => match b {
-            Axis::Horizontal => false,
-            Axis::Vertical => true,
-        },
-    }
-}
 
 // Whether a slot is a split along the axis.
 pub fn has_axis(s: Slot, axis: Axis) -> bool
@@ -34,10 +19,8 @@ pub fn has_axis(s: Slot, axis: Axis) -> bool
 {
     let k = s.kind;
     match k {
-        Kind::Empty => false,
-        Kind::Pane(_) => false,
-        Kind::Tabs(_) => false,
-        Kind::Split(own) => same_axis(own, axis),
+        Kind::Split(own) => own == axis,
+        _ => false,
     }
 }
 
@@ -136,8 +119,8 @@ fn split_of(axis: Axis, first: TileId, second: TileId, a: f64, b: f64) -> Slot
     ensures { (view_slot result ≡ Tree.split axis (first ∷ second ∷ []) (a ∷ b ∷ []) []) × (over_slot result ≡ false) }
 {
     let mut s = pack::bare_slot(Kind::Split(axis));
-    let children = slots::two_tiles(first, second);
-    let parts = slots::two_reals(a, b);
+    let children = lists::two(first, second);
+    let parts = lists::two(a, b);
     let none = lists::empty();
     s.children = children;
     s.shares = parts;

@@ -68,8 +68,7 @@ pub fn rect_of(e: Entry) -> Rect
 }
 
 // One row more; nothing where the stream is full.
-// Kept: the two arrays and the length in use are three parameters here and in every caller. C lends the arrays one by one (`tiling_layout_into`), and a
-// struct of the two `&mut` leaves a caller's goal `returns` open: the fields' final values are not tied to what was lent.
+// Kept: C lends the two arrays one by one (`tiling_layout_into`), and a struct of the two `&mut` leaves a caller's goal `returns` open: its fields' final values are not tied to what was lent.
 pub fn push(
     items: &mut [[u64; 5]; 2304],
     rects: &mut [[f64; 4]; 2304],

@@ -15,10 +15,8 @@ pub fn active_is(s: Slot, index: usize) -> bool
 {
     let k = s.kind;
     match k {
-        Kind::Empty => false,
-        Kind::Pane(_) => false,
         Kind::Tabs(_) => s.active == index,
-        Kind::Split(_) => false,
+        _ => false,
     }
 }
 
@@ -39,10 +37,8 @@ pub fn is_full(s: Slot) -> bool
     let k = s.kind;
     let panes = s.panes;
     match k {
-        Kind::Empty => false,
-        Kind::Pane(_) => false,
         Kind::Tabs(_) => 16 <= panes.len,
-        Kind::Split(_) => false,
+        _ => false,
     }
 }
 
@@ -72,8 +68,6 @@ pub fn tabbed_in(s: Slot, pane: u64, index: Option<usize>) -> Slot
     let k = s.kind;
     let given = s.panes;
     match k {
-        Kind::Empty => s,
-        Kind::Pane(_) => s,
         Kind::Tabs(_) => {
             let place = clamped(index, given.len);
             let more = lists::insert(given, place, pane);
@@ -82,7 +76,7 @@ pub fn tabbed_in(s: Slot, pane: u64, index: Option<usize>) -> Slot
             r.panes = more;
             r
         }
-        Kind::Split(_) => s,
+        _ => s,
     }
 }
 

@@ -78,20 +78,20 @@ pub fn at_revision(t: TileTree, revision: u64) -> TileTree
 pub fn pair(a: u64, b: u64) -> Tiles
     ensures { IsTiles result (tile a ∷ tile b ∷ []) }
 {
-    slots::two_tiles(TileId { slot: a }, TileId { slot: b })
+    lists::two(TileId { slot: a }, TileId { slot: b })
 }
 
 pub fn triple(a: u64, b: u64, c: u64) -> Tiles
     ensures { result.len ≡ 3 }
 {
-    let two = slots::two_tiles(TileId { slot: a }, TileId { slot: b });
+    let two = lists::two(TileId { slot: a }, TileId { slot: b });
     lists::push(two, TileId { slot: c })
 }
 
 pub fn shares(a: f64, b: f64, c: f64) -> Reals
     ensures { result.len ≡ 3 }
 {
-    let two = slots::two_reals(a, b);
+    let two = lists::two(a, b);
     lists::push(two, c)
 }
 

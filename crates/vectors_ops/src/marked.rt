@@ -31,14 +31,14 @@ fn e8() -> bool {
         4,
         Axis::Vertical,
         cases::pair(1, 3),
-        slots::two_reals(0.75, 0.25),
+        lists::two(0.75, 0.25),
     );
     let c = cases::with_split(
         b,
         0,
         Axis::Horizontal,
         cases::pair(4, 2),
-        slots::two_reals(1.0, 1.0),
+        lists::two(1.0, 1.0),
     );
     let wanted = cases::at_revision(c, 8);
     let op = cases::split_pane(Axis::Vertical, Placement::After, 0.25);

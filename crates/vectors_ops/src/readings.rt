@@ -38,7 +38,7 @@ fn beside_own_group() -> bool {
         0,
         Axis::Horizontal,
         cases::pair(1, 2),
-        slots::two_reals(3.0, 1.0),
+        lists::two(3.0, 1.0),
     );
     let b = cases::with_pane(cases::with_none(t, 2), 3, 2);
     let c = cases::with_split(
@@ -46,7 +46,7 @@ fn beside_own_group() -> bool {
         0,
         Axis::Horizontal,
         cases::pair(1, 3),
-        slots::two_reals(3.0, 0.25),
+        lists::two(3.0, 0.25),
     );
     let wanted = cases::at_revision(c, 8);
     let op = move_beside(2, 2, Axis::Horizontal, Placement::Before, 0.25);
@@ -85,14 +85,14 @@ fn melting() -> TileTree {
         16,
         Axis::Vertical,
         cases::pair(17, 18),
-        slots::two_reals(1.0, 1.0),
+        lists::two(1.0, 1.0),
     );
     let b = cases::with_split(
         a,
         17,
         Axis::Horizontal,
         cases::pair(19, 20),
-        slots::two_reals(1.0, 1.0),
+        lists::two(1.0, 1.0),
     );
     let c = cases::with_pane(cases::with_pane(b, 18, 18), 19, 19);
     cases::with_pane(c, 20, 20)

@@ -28,6 +28,7 @@ const EMPTY: Slot = Slot {
 };
 
 // A tab bar placement by its number; past the table, the first.
+// Kept: a `From<u64>` of `TabBarPlacement` stands in `rules` or nowhere, and there a number past the table has no one reading (`bar_from` takes the last).
 pub fn bar(n: u64) -> TabBarPlacement
     ensures { n ≤ 4 → bar_code result ≡ n }
 {
@@ -41,6 +42,7 @@ pub fn bar(n: u64) -> TabBarPlacement
 }
 
 // An axis by its number; past the table, the first.
+// Kept: a `From<u64>` of `Axis` stands in `rules` or nowhere, and there a number past the table has no one reading (`axis_from` takes the last).
 pub fn axis(n: u64) -> Axis
     ensures { n ≤ 1 → axis_code result ≡ n }
 {

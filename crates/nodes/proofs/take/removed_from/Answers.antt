@@ -1,8 +1,6 @@
 -- `nodes::take::removed_from` goes by the slot's kind. Assumes nothing.
 use native.Mathlib.Omega.{arith}
-use Rattle.rules.specs.Insert.{removed_from}
-use Rattle.rules.specs.declared.model.Kind.TheVariants.{Split}
-use Rattle.nodes.proofs.SlotLaws.{tabs-few, tabs-place, removed-is, unmoved}
+use Rattle.nodes.proofs.SlotLaws.{tabs-few, tabs-place, removed-is}
 use mathlib.Core.Path.{refl}
 use Rattle.nodes.proofs.take.removed_from.Goals as goal
 
@@ -15,8 +13,3 @@ pub returns-in-Tabs : goal.returns-in-Tabs
 returns-in-Tabs c =
     let x = c.args in
     removed-is x.s _ _ c.in-Tabs.is refl x.index c.remove-left.ensures c.active_after.ensures
-
-pub returns-in-Split : goal.returns-in-Split
-returns-in-Split c =
-    let s = c.args.s in
-    (unmoved (removed_from c.args.index) s (Split _) c.in-Split.is refl, c.requires.whole)

@@ -7,9 +7,3 @@ use Rattle.nodes.proofs.targets.is_group.Goals as goal
 
 pub returns-in-Empty : goal.returns-in-Empty
 returns-in-Empty c = let s = c.args.s in ap (λ (k : Kind). a_group (node_of k s)) (sym c.in-Empty.is)
-
-pub returns-in-Pane : goal.returns-in-Pane
-returns-in-Pane c = let s = c.args.s in ap (λ (k : Kind). a_group (node_of k s)) (sym c.in-Pane.is)
-
-pub returns-in-Split : goal.returns-in-Split
-returns-in-Split c = let s = c.args.s in ap (λ (k : Kind). a_group (node_of k s)) (sym c.in-Split.is)

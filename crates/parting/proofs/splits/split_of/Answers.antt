@@ -9,8 +9,8 @@ use Rattle.parting.proofs.splits.split_of.Goals as goal
 pub returns : goal.returns
 returns c =
     let k = c.bare_slot-s.ensures in
-    let t = c.two_tiles-children.ensures in
-    let p = c.two_reals-parts.ensures in
+    let t = c.two-children.ensures in
+    let p = c.two-parts.ensures in
     let e = c.empty-none.ensures in
     let x = c.args.axis in
     (bare-view _ (Split x) k ∙ (λ z. split x (t.list z) (p.list z) (e.list z)), split-whole _ x k t.few p.few e.few)

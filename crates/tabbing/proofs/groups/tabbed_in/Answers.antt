@@ -3,9 +3,7 @@ use native.Mathlib.Omega.{arith}
 use mathlib.Core.Path.{◌≡◌, refl}
 use borrow.Author.Rules.{rules}
 use lib.ListN.{length}
-use Rattle.rules.specs.Operations.{tabbed_in}
-use Rattle.rules.specs.declared.model.Kind.TheVariants.{Split}
-use Rattle.nodes.proofs.SlotLaws.{tabs-few, unmoved}
+use Rattle.nodes.proofs.SlotLaws.{tabs-few}
 use Rattle.nodes.proofs.GroupLaws.{roomy, tabbed}
 use Rattle.tabbing.proofs.groups.tabbed_in.Goals as goal
 
@@ -19,8 +17,3 @@ returns-in-Tabs c =
     let e = c.in-Tabs.is in
     let long : length x.s.panes.at ≡ 16 = search rules in
     tabbed x.s _ _ e refl x.pane x.index long (tabs-few x.s _ e c.requires.whole) c.clamped-place.ensures.0 c.clamped-place.result c.clamped-place.ensures.0 c.insert-more.ensures
-
-pub returns-in-Split : goal.returns-in-Split
-returns-in-Split c =
-    let x = c.args in
-    (unmoved (tabbed_in x.pane x.index) x.s (Split _) c.in-Split.is refl, c.requires.whole)

@@ -1,11 +1,11 @@
--- `nodes::slots::two_tiles` pushes twice. Assumes nothing.
+-- A list of two pushes twice. Assumes nothing.
 use mathlib.Core.List.{[], ◌∷◌}
 use Rattle.lists.specs.Build.{exactly-push}
 use native.Mathlib.Omega.{arith}
-use Rattle.nodes.proofs.slots.two_tiles.Goals as goal
+use Rattle.lists.proofs.two.Goals as goal
 
 pub returns : goal.returns
-returns c =
+returns g c =
     let e = c.empty-none.ensures in
     let p = c.push-one.ensures in
     let o = exactly-push _ _ _ _ _ _ [] e (omega (arith, e.size)) p in
