@@ -1,5 +1,5 @@
 -- `tiling_c::tiling_apply`: codes that are none, or what the change of the columns came to. Assumes nothing.
-use mathlib.Core.Path.{◌≡◌, sym, ◌∙◌}
+use mathlib.Core.Path.{◌≡◌, sym, ap, ◌∙◌}
 use mathlib.Core.Bool.{true, ◌&&◌}
 use Rattle.coding.specs.Lent.{lot, lot_ok, op_ok}
 use Rattle.crossing.proofs.TidyLaws.{tidy-lent, tidy-plain}
