@@ -62,7 +62,23 @@ pub struct Kept {
     pub minima: [[f64; 16]; 64],
 }
 
-// The same where the answer's number is 0. A refusal puts the columns back as they were kept, and root and revision were not touched.
+// The columns are again as they were kept.
+pub fn put_back(
+    old: &Kept,
+    heads: &mut [[u64; 8]; 64],
+    ids: &mut [[u64; 16]; 64],
+    shares: &mut [[f64; 16]; 64],
+    minima: &mut [[f64; 16]; 64],
+)
+    ensures { (heads.new ≡ old.now.heads) × (ids.new ≡ old.now.ids) × (shares.new ≡ old.now.shares) × (minima.new ≡ old.now.minima) }
+{
+    *heads = old.heads;
+    *ids = old.ids;
+    *shares = old.shares;
+    *minima = old.minima;
+}
+
+// As `store` does, where the answer's number is 0. A refusal puts the columns back as they were kept, and root and revision were not touched.
 pub fn keep_columns(
     number: u64,
     root: u64,
@@ -77,10 +93,7 @@ pub fn keep_columns(
     ensures { Keeps number (arena_from root revision heads.old ids.old shares.old minima.old) (lot top.old old.now.heads old.now.ids old.now.shares old.now.minima) (lot top.new heads.new ids.new shares.new minima.new) }
 {
     if number != 0 {
-        *heads = old.heads;
-        *ids = old.ids;
-        *shares = old.shares;
-        *minima = old.minima;
+        put_back(old, heads, ids, shares, minima);
         return;
     }
     store(root, revision, top, heads)

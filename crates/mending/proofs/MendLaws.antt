@@ -1,5 +1,5 @@
 -- Laws of a repair of lent arrays: how what the parts left gives what is promised. Assumes nothing.
-use Rattle.std.specs.Prelude.{Ok, Err}
+use Rattle.std.specs.Prelude.{Result, Ok, Err, IsOk}
 use mathlib.Core.Path.{◌≡◌, refl, sym, ap, subst, ◌∙◌}
 use mathlib.Core.Bool.{Bool, true, false, not, ◌&&◌}
 use mathlib.Core.List.{List, ◌++◌, map}
@@ -27,11 +27,11 @@ use Rattle.columns.specs.Pack.{over_head}
 use Rattle.columns.specs.RowLaws.{unused-none}
 use Rattle.columns.specs.Shown.{arena_from, Plain}
 use Rattle.calm.specs.Calm.{calm_arena}
-use Rattle.settling.specs.Settle.{Comes}
+use Rattle.settling.specs.Settle.{answer_in, Comes}
 use Rattle.settling.specs.declared.Settled.{Settled}
 use Rattle.repair.proofs.StillLaws.{calm-tells}
 use Rattle.coding.specs.Lent.{Lot}
-use Rattle.crossing.specs.Parts.{Tells, Holds, Keeps, Writes}
+use Rattle.crossing.specs.Parts.{Tells, Holds, Writes}
 use Rattle.mending.specs.Mends.{Mends}
 
 -- ---- the number is 0 where it is accepted, and nowhere else
@@ -65,18 +65,31 @@ module _ (a : Answer) (n : ℕ) (told : n ≡ (answer_of a).number) where
 
 -- ---- any repair: a is the arena that the columns showed, b the one that was lent
 
-pub mends : (l : Lot) (acts : List (List ℕ)) (b a : Arena) (hs xs : List (List ℕ)) (ss ms : List (List Float)) (list : List (List ℕ)) (d : Settled) (l' : Lot) (acts' : List (List ℕ)) (out' : List ℕ) (n : ℕ)
-    → a ≡ b → Comes a (repair a) hs xs ss ms list d → ((k : List RepairAction) → Lists list d.count k → Writes k acts acts' d.count) → Tells d.answer d.count 0 out' n
-    → Keeps n (arena_from d.root a.revision hs xs ss ms) l l' → Mends (repair b) l acts l' acts' out' n
-mends l acts b a hs xs ss ms list d l' acts' out' n v C W T K =
+pub mends-taken : (l : Lot) (acts : List (List ℕ)) (b a : Arena) (hs xs : List (List ℕ)) (ss ms : List (List Float)) (list : List (List ℕ)) (d : Settled) (l' : Lot) (acts' : List (List ℕ)) (out' : List ℕ) (n : ℕ)
+    → a ≡ b → Comes a (repair a) hs xs ss ms list (Ok d) → ((k : List RepairAction) → Lists list d.count k → Writes k acts acts' d.count) → Tells Accepted d.count 0 out' n
+    → Holds (arena_from d.root a.revision hs xs ss ms) l' → Mends (repair b) l acts l' acts' out' n
+mends-taken l acts b a hs xs ss ms list d l' acts' out' n v C W T H =
     let x = repair a in
     let Y = W x.actions C.actions in
     subst (λ (y : Repaired). Mends y l acts l' acts' out' n) (ap repair v)
     (record {
       told = subst (λ (k : ℕ). Tells x.answer k 0 out' n) Y.count (subst (λ (y : Answer). Tells y d.count 0 out' n) C.answer T);
-      accepted = λ p. let q = C.answer ∙ p in subst (λ (y : Arena). Holds y l') (sym (C.tree q)) (K.stored (zero-accepted d.answer n T.number q));
-      refused = λ f p. K.left (not-refused d.answer n T.number f (C.answer ∙ p));
+      accepted = λ p. subst (λ (y : Arena). Holds y l') (sym (C.tree refl)) H;
+      refused = λ f p. absurd (not-refused Accepted n T.number f (C.answer ∙ p) T.number);
       actions = Y.list;
+    })
+
+pub mends-refused : (l : Lot) (acts : List (List ℕ)) (b a : Arena) (hs xs : List (List ℕ)) (ss ms : List (List Float)) (list : List (List ℕ)) (e : Refusal) (l' : Lot) (out' : List ℕ) (n : ℕ)
+    → a ≡ b → Comes a (repair a) hs xs ss ms list (Err e) → l' ≡ l → Tells (Refused e) 0 0 out' n → Mends (repair b) l acts l' acts out' n
+mends-refused l acts b a hs xs ss ms list e l' out' n v C same T =
+    let x = repair a in
+    let none = (C.given e refl).1 in
+    subst (λ (y : Repaired). Mends y l acts l' acts out' n) (ap repair v)
+    (record {
+      told = subst (λ (k : List RepairAction). Tells x.answer (length k) 0 out' n) (sym none) (subst (λ (y : Answer). Tells y 0 0 out' n) C.answer T);
+      accepted = λ p. absurd (not-refused (Refused e) n T.number e refl (zero-accepted (Refused e) n T.number (C.answer ∙ p)));
+      refused = λ f p. same;
+      actions = sym (ap (λ (k : List RepairAction). map code_of k ++ drop (length k) acts) none);
     })
 
 -- ---- a repair that lists nothing
@@ -85,8 +98,16 @@ accepted-is : (a : Answer) → is_accepted a ≡ true → a ≡ Accepted
 accepted-is (Ok _) e = refl
 accepted-is (Err r) e = never (sym e)
 
+-- such a repair is not refused
+pub still-ok : (a : Arena) (hs xs : List (List ℕ)) (ss ms : List (List Float)) (list : List (List ℕ)) (r : Result Settled Refusal) → is_still (repair a) ≡ true → Comes a (repair a) hs xs ss ms list r → IsOk r
+still-ok a hs xs ss ms list r s C = by r (C.answer ∙ accepted-is (repair a).answer (and_both (is_accepted (repair a).answer) (is_none (repair a).actions) s).0)
+  where
+    by : (r : Result Settled Refusal) → answer_in r ≡ Accepted → IsOk r
+    by (Ok d) e = refl
+    by (Err f) e = not-both e refl
+
 pub mends-still : (l : Lot) (a : Arena) (hs xs : List (List ℕ)) (ss ms : List (List Float)) (list : List (List ℕ)) (d : Settled) (l' : Lot) (out' : List ℕ) (n : ℕ)
-    → is_still (repair a) ≡ true → Comes a (repair a) hs xs ss ms list d → Holds (arena_from d.root a.revision hs xs ss ms) l' → Tells Accepted 0 0 out' n
+    → is_still (repair a) ≡ true → Comes a (repair a) hs xs ss ms list (Ok d) → Holds (arena_from d.root a.revision hs xs ss ms) l' → Tells Accepted 0 0 out' n
     → (acts : List (List ℕ)) → Mends (repair a) l acts l' acts out' n
 mends-still l a hs xs ss ms list d l' out' n s C H T acts =
     let x = repair a in
@@ -95,7 +116,7 @@ mends-still l a hs xs ss ms list d l' out' n s C H T acts =
     let q = none_is x.actions both.1 in
     record {
       told = subst (λ (y : Answer). Tells y (length x.actions) 0 out' n) (sym p) (subst (λ (k : List RepairAction). Tells Accepted (length k) 0 out' n) (sym q) T);
-      accepted = λ z. subst (λ (y : Arena). Holds y l') (sym (C.tree (C.answer ∙ p))) H;
+      accepted = λ z. subst (λ (y : Arena). Holds y l') (sym (C.tree refl)) H;
       refused = λ e r. not-both p r;
       actions = sym (ap (λ (k : List RepairAction). map code_of k ++ drop (length k) acts) q);
     }

@@ -14,7 +14,6 @@ ghost use Rattle.mending.specs.Mends.{Mends};
 use columns::unpack;
 use crossing::{actions, tidy, told};
 use lending::back::{self, Kept};
-use rules::refusal::Answer;
 
 // Whether no length is over 16, and repair would list nothing: by a walk that only reads.
 pub fn is_still(
@@ -48,7 +47,8 @@ pub fn mend_still(
     ensures { (acts : List (List ℕ)) → Mends (repair (arena_from root revision heads.old ids.old shares.old minima.old)) (lot top.old heads.old ids.old shares.old minima.old) acts (lot top.new heads.new ids.new shares.new minima.new) acts out.new result }
 {
     let mut silent = [[0; 3]; 1];
-    let d = settling::settle::repair_columns(root, heads, ids, shares, minima, &mut silent);
+    let done = settling::settle::repair_columns(root, heads, ids, shares, minima, &mut silent);
+    let d = done.unwrap();
     back::store(d.root, revision, top, heads);
     told::tell(Ok(()), 0, 0, out)
 }
@@ -75,9 +75,15 @@ pub fn mend(
     };
     tidy::tidy_lent(heads);
     let mut list = [[0; 3]; 1300];
-    let d = settling::settle::repair_columns(root, heads, ids, shares, minima, &mut list);
-    let n = told::tell(d.answer, d.count as u64, 0, out);
-    actions::write(&list, d.count, acts);
-    back::keep_columns(n, d.root, revision, &old, top, heads, ids, shares, minima);
-    n
+    match settling::settle::repair_columns(root, heads, ids, shares, minima, &mut list) {
+        Ok(done) => {
+            actions::write(&list, done.count, acts);
+            back::store(done.root, revision, top, heads);
+            told::tell(Ok(()), done.count as u64, 0, out)
+        }
+        Err(e) => {
+            back::put_back(&old, heads, ids, shares, minima);
+            told::tell(Err(e), 0, 0, out)
+        }
+    }
 }

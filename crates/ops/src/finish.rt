@@ -53,8 +53,7 @@ pub fn change(
     // Nobody reads the actions of an operation's repair: a list that has not 1,300 places is silent, as the Rust's sink without a list.
     let mut acts = [[0u64; 3]; 1];
     let spare = number_of(to.spare);
-    let done = settle::settle(to.root, spare, heads, ids, shares, minima, &mut acts);
-    done.answer?;
+    let done = settle::settle(to.root, spare, heads, ids, shares, minima, &mut acts)?;
     Ok(AppliedIn {
         root: done.root,
         revision: revision + 1,

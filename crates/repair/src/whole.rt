@@ -14,7 +14,7 @@ use crate::Repairing;
 use columns::{pack, unpack};
 use noting::listing;
 use rules::model::{TileId, TileTree};
-use rules::refusal::{Answer, Refusal};
+use rules::refusal::Refusal;
 use settling::{Settled, lone, settle};
 
 fn refused(t: TileTree, e: Refusal) -> Repairing
@@ -31,7 +31,7 @@ fn refused(t: TileTree, e: Refusal) -> Repairing
 // What a repair of a tree's columns came to, as a tree and a report. A refused tree is the tree given.
 fn packed(
     t: TileTree,
-    s: Settled,
+    s: Result<Settled, Refusal>,
     heads: &[[u64; 8]; 64],
     ids: &[[u64; 16]; 64],
     shares: &[[f64; 16]; 64],
@@ -41,9 +41,8 @@ fn packed(
     requires { Left heads.now ids.now shares.now minima.now s }
     ensures { Packs t s heads.now ids.now shares.now minima.now acts.now result }
 {
-    let answer = s.answer;
-    match answer {
-        Ok(()) => {
+    match s {
+        Ok(s) => {
             let slots = pack::pack(heads, ids, shares, minima);
             let actions = listing::report(acts, s.count);
             let root = TileId { slot: s.root };

@@ -9,6 +9,7 @@ use borrow.Author.Tests.{le-ltb, ltb-true, ltb-false}
 use lib.Dec.{ltb}
 use lib.ListN.{length, get_or, take, set}
 use lib.Ieee.{Float}
+use Rattle.std.specs.Prelude.{Result}
 use Rattle.rules.specs.Lists.{any_of}
 use Rattle.rules.specs.Tree.{Node, Arena, tile, set_node, empty_slots, empty_group, wide_node}
 use Rattle.rules.specs.Repair.{Out, begin, normalize_node, Repaired, refused_repair, repair}
@@ -29,7 +30,7 @@ use Rattle.forest.specs.Bools.{or_left}
 use Rattle.forest.specs.Answers.{not-both}
 use Rattle.columns.specs.OverLaws.{none_over}
 use Rattle.columns.specs.Shown.{arena_from, Plain}
-use Rattle.settling.specs.Settle.{Left, Comes, Settles, Mends, Refuses, Finishes, blank_head, Plants}
+use Rattle.settling.specs.Settle.{count_in, Left, Comes, Settles, Mends, Refuses, Finishes, blank_head, Plants}
 use Rattle.settling.specs.declared.Settled.{Settled}
 use Rattle.settling.proofs.StartLaws.{narrow-in, narrow-set, start, start-shows}
 use Rattle.settling.proofs.PlainLaws.{plain_over, plain-long}
@@ -60,10 +61,10 @@ room-left D S = omega (arith, S.listing)
 
 -- ---- refused, whatever the columns are then
 
-refused-left : (hs xs : List (List ℕ)) (ss ms : List (List Float)) (e : Refusal) (r : Settled) → Refuses e r → Left hs xs ss ms r
+refused-left : (hs xs : List (List ℕ)) (ss ms : List (List Float)) (e : Refusal) (r : Result Settled Refusal) → Refuses e r → Left hs xs ss ms r
 refused-left hs xs ss ms e r R = record { count = omega (arith, R.count); plain = λ a. not-both a R.answer; whole = λ a. not-both a R.answer }
 
-refused-comes : (a : Arena) (x : Repaired) (hs xs : List (List ℕ)) (ss ms : List (List Float)) (acts : List (List ℕ)) (e : Refusal) (r : Settled) → Refuses e r → x ≡ refused_repair e a → Comes a x hs xs ss ms acts r
+refused-comes : (a : Arena) (x : Repaired) (hs xs : List (List ℕ)) (ss ms : List (List Float)) (acts : List (List ℕ)) (e : Refusal) (r : Result Settled Refusal) → Refuses e r → x ≡ refused_repair e a → Comes a x hs xs ss ms acts r
 refused-comes a x hs xs ss ms acts e r R q =
     record {
       answer = R.answer ∙ sym (ap (λ (y : Repaired). y.answer) q);
@@ -74,7 +75,7 @@ refused-comes a x hs xs ss ms acts e r R q =
 
 -- ---- accepted: the heads gs were swept by the claims cs
 
-module _ (gs xs : List (List ℕ)) (ss ms : List (List Float)) (cs : List Bool) (acts : List (List ℕ)) (n s : ℕ) (hs' acts' : List (List ℕ)) (r : Settled) (F : Finishes gs cs acts n s hs' acts' r)
+module _ (gs xs : List (List ℕ)) (ss ms : List (List Float)) (cs : List Bool) (acts : List (List ℕ)) (n s : ℕ) (hs' acts' : List (List ℕ)) (r : Result Settled Refusal) (F : Finishes gs cs acts n s hs' acts' r)
     (lx : length xs ≡ 64) (ls : length ss ≡ 64) (lm : length ms ≡ 64) (few : (i : ℕ) → Slim (get_or gs i [])) (room : n + 64 ≤ 1300) where
   finished-left : Left hs' xs ss ms r
   finished-left =
@@ -93,7 +94,7 @@ module _ (gs xs : List (List ℕ)) (ss ms : List (List Float)) (cs : List Bool) 
       record {
         answer = F.answer ∙ sym (ap (λ (y : Repaired). y.answer) q);
         tree = λ p. ap (λ (y : Repaired). y.tree) q ∙ (λ z. record { root = tile (sym F.under z); revision = a.revision; nodes = nodes z; over = over z });
-        actions = subst (λ (y : Repaired). Lists acts' r.count y.actions) (sym q) (S.lists xs ss ms lx ls lm l g);
+        actions = subst (λ (y : Repaired). Lists acts' (count_in r) y.actions) (sym q) (S.lists xs ss ms lx ls lm l g);
         given = λ f p. not-both F.answer p;
       }
 
@@ -114,7 +115,7 @@ some-free : (spare : ℕ) → spare < 64 → (free : List ℕ) → spare ≡ fir
 some-free spare h [] q = absurd (omega (arith, h, q))
 some-free spare h (x ∷ xs) q = (xs, ap (λ (y : ℕ). y ∷ xs) (sym q))
 
-module _ (root : ℕ) (hs xs : List (List ℕ)) (ss ms : List (List Float)) (P : Plain hs xs ss ms) (seen : List ℕ) (acts : List (List ℕ)) (D : Cols) (k : Kept) (W : Walked (start hs xs ss ms seen acts) D k root) (spare : ℕ) (hs' acts' : List (List ℕ)) (r : Settled) where
+module _ (root : ℕ) (hs xs : List (List ℕ)) (ss ms : List (List Float)) (P : Plain hs xs ss ms) (seen : List ℕ) (acts : List (List ℕ)) (D : Cols) (k : Kept) (W : Walked (start hs xs ss ms seen acts) D k root) (spare : ℕ) (hs' acts' : List (List ℕ)) (r : Result Settled Refusal) where
   abbrev C : Cols
   C = start hs xs ss ms seen acts
 
@@ -192,7 +193,7 @@ module _ (root : ℕ) (hs xs : List (List ℕ)) (ss ms : List (List Float)) (P :
 
 -- ---- repair is normalize with the slots that are empty
 
-module _ (root : ℕ) (hs xs : List (List ℕ)) (ss ms : List (List Float)) (P : Plain hs xs ss ms) (hs' xs' : List (List ℕ)) (ss' ms' : List (List Float)) (acts' : List (List ℕ)) (r : Settled) where
+module _ (root : ℕ) (hs xs : List (List ℕ)) (ss ms : List (List Float)) (P : Plain hs xs ss ms) (hs' xs' : List (List ℕ)) (ss' ms' : List (List Float)) (acts' : List (List ℕ)) (r : Result Settled Refusal) where
   pub mends-over : any_of over_head hs ≡ true → Refuses TooWide r → Mends root hs xs ss ms hs' xs' ss' ms' acts' r
   mends-over e R =
       record {

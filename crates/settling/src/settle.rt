@@ -1,27 +1,17 @@
 // Repair of an arena's columns in place. A refused one may leave them half done: who must have them as they were keeps a copy.
 // Kept: the four columns are four parameters (why: columns/src/lib.rt).
-ghost use Rattle.std.specs.Prelude.{◌≡◌, Bool, ◌+◌, ◌≤◌};
+ghost use Rattle.std.specs.Prelude.{◌≡◌, Bool, ◌+◌, ◌≤◌, Ok};
 ghost use Rattle.rules.specs.Lists.{any_of};
 ghost use Rattle.columns.specs.Pack.{over_head};
 ghost use Rattle.columns.specs.Shown.{Plain};
-ghost use Rattle.settling.specs.Settle.{Refuses, Finishes, Plants, Settles, Mends};
+ghost use Rattle.settling.specs.Settle.{Finishes, Plants, Settles, Mends};
 
 use crate::Settled;
 use columns::unpack;
 use normalize::nodes;
 use noting::sweep;
-use rules::refusal::{Answer, Refusal};
+use rules::refusal::Refusal;
 use sifting::{Counts, Kept};
-
-fn refused(e: Refusal) -> Settled
-    ensures { Refuses e result }
-{
-    Settled {
-        answer: Err(e),
-        root: 0,
-        count: 0,
-    }
-}
 
 // The sweep, under the root that was kept.
 fn finish(
@@ -32,14 +22,10 @@ fn finish(
     root: u64,
 ) -> Settled
     requires { n + 64 ≤ 1300 }
-    ensures { Finishes heads.old claimed.now acts.old n root heads.new acts.new result }
+    ensures { Finishes heads.old claimed.now acts.old n root heads.new acts.new (Ok result) }
 {
     let count = sweep::sweep(heads, claimed, acts, n);
-    Settled {
-        answer: Ok(()),
-        root,
-        count,
-    }
+    Settled { root, count }
 }
 
 // Nothing was kept: an empty Hidden group in the spare slot becomes the root; 64 stands for no slot.
@@ -49,17 +35,17 @@ fn plant(
     acts: &mut [[u64; 3]],
     n: usize,
     spare: u64,
-) -> Settled
+) -> Result<Settled, Refusal>
     requires { n + 64 ≤ 1300 }
     ensures { Plants heads.old claimed.old acts.old n spare heads.new acts.new result }
 {
     if 64 <= spare {
-        return refused(Refusal::ArenaFull);
+        return Err(Refusal::ArenaFull);
     }
     let i = spare as usize;
     heads[i] = [2, 0, 0, 0, 0, 0, 0, 0];
     claimed[i] = true;
-    finish(heads, claimed, acts, n, spare)
+    Ok(finish(heads, claimed, acts, n, spare))
 }
 
 // normalize_with_report of the arena that columns show, whose lists are all there. A fresh root goes into the spare slot; 64 stands for no slot.
@@ -71,7 +57,7 @@ pub fn settle(
     shares: &mut [[f64; 16]; 64],
     minima: &mut [[f64; 16]; 64],
     acts: &mut [[u64; 3]],
-) -> Settled
+) -> Result<Settled, Refusal>
     requires plain { Plain heads.old ids.old shares.old minima.old }
     requires whole { any_of over_head heads.old ≡ Bool.false }
     ensures { Settles root spare heads.old ids.old shares.old minima.old heads.new ids.new shares.new minima.new acts.new result }
@@ -91,9 +77,9 @@ pub fn settle(
     );
     let n = w.counts.acts;
     match w.kept {
-        Kept::At(top) => finish(heads, &claimed, acts, n, top),
+        Kept::At(top) => Ok(finish(heads, &claimed, acts, n, top)),
         Kept::Gone => plant(heads, &mut claimed, acts, n, spare),
-        Kept::Wide => refused(Refusal::TooWide),
+        Kept::Wide => Err(Refusal::TooWide),
     }
 }
 
@@ -105,12 +91,12 @@ pub fn repair_columns(
     shares: &mut [[f64; 16]; 64],
     minima: &mut [[f64; 16]; 64],
     acts: &mut [[u64; 3]],
-) -> Settled
+) -> Result<Settled, Refusal>
     requires { Plain heads.old ids.old shares.old minima.old }
     ensures { Mends root heads.old ids.old shares.old minima.old heads.new ids.new shares.new minima.new acts.new result }
 {
     if unpack::heads_over(heads) {
-        return refused(Refusal::TooWide);
+        return Err(Refusal::TooWide);
     }
     let spare = sweep::first_empty(heads);
     settle(root, spare, heads, ids, shares, minima, acts)

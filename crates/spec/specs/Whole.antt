@@ -1,5 +1,5 @@
 -- A spec's tree is repaired as any arena is: the rules' built_from is their repair, told as a spec's answer. Assumes nothing.
-use Rattle.std.specs.Prelude.{Ok, Err}
+use Rattle.std.specs.Prelude.{Result, Ok, Err}
 use Rattle.std.specs.Prelude.{◌≡◌, refl, Bool, true, false, List, [], map, ℕ, ltb, Float, length}
 use Rattle.std.proofs.Common.{sym, ap, subst, ◌∙◌}
 use Rattle.std.proofs.Math.Option.{Option, none, some}
@@ -16,7 +16,7 @@ use Rattle.rules.specs.declared.refusal.Refusal.{Refusal}
 use Rattle.columns.specs.Columns.{nodes_from}
 use Rattle.columns.specs.Pack.{over_of}
 use Rattle.columns.specs.Shown.{arena_from, Plain}
-use Rattle.settling.specs.Settle.{Mends}
+use Rattle.settling.specs.Settle.{answer_in, root_in, Mends}
 use Rattle.settling.specs.declared.Settled.{Settled}
 use Rattle.drafting.specs.Draft.{draft_checked, draft_narrow, draft_within, draft_tabled, draft_of, Drafted, DraftedIn, refused_as, BuiltIn, repaired_by, from-draft}
 use Rattle.drafting.specs.DraftLaws.{built-refused}
@@ -81,14 +81,14 @@ told-given (Ok _) x = refl
 told-given (Err e) x = refl
 
 -- a tree's columns, repaired
-pub told_in : (root : ℕ) (hs xs : List (List ℕ)) (ss ms : List (List Float)) (hs' xs' : List (List ℕ)) (ss' ms' : List (List Float)) (acts : List (List ℕ)) (s : Settled)
-    → Mends root hs xs ss ms hs' xs' ss' ms' acts s → BuiltIn (built_of (arena_from root 0 hs xs ss ms)) s.answer s.root hs' xs' ss' ms'
+pub told_in : (root : ℕ) (hs xs : List (List ℕ)) (ss ms : List (List Float)) (hs' xs' : List (List ℕ)) (ss' ms' : List (List Float)) (acts : List (List ℕ)) (s : Result Settled Refusal)
+    → Mends root hs xs ss ms hs' xs' ss' ms' acts s → BuiltIn (built_of (arena_from root 0 hs xs ss ms)) (answer_in s) (root_in s) hs' xs' ss' ms'
 told_in root hs xs ss ms hs' xs' ss' ms' acts s M =
     let x = repair (arena_from root 0 hs xs ss ms) in
-    let e : told x ≡ told_by s.answer x = ap (λ (y : Answer). told_by y x) (sym (M.right 0).answer) in
+    let e : told x ≡ told_by (answer_in s) x = ap (λ (y : Answer). told_by y x) (sym (M.right 0).answer) in
     record {
-      says = told-says s.answer x ∙ sym (ap (λ (b : Built). b.answer) e);
-      given = e ∙ told-given s.answer x ∙ sym (ap (refused_as s.answer) e);
+      says = told-says (answer_in s) x ∙ sym (ap (λ (b : Built). b.answer) e);
+      given = e ∙ told-given (answer_in s) x ∙ sym (ap (refused_as (answer_in s)) e);
       holds = λ q. sym ((M.right 0).tree q) ∙ sym (ap (λ (b : Built). b.tree) e ∙ ap (λ (y : Answer). (told_by y x).tree) q);
       plain = M.left.plain;
     }

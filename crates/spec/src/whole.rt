@@ -34,10 +34,16 @@ fn mended(
 {
     // A list that has not 1,300 places is silent, as the Rust's sink without a list.
     let mut acts = [[0u64; 3]; 1];
-    let s = repair_columns(0, heads, ids, shares, minima, &mut acts);
-    let answer = s.answer;
-    let root = s.root;
-    Rooted { answer, root }
+    match repair_columns(0, heads, ids, shares, minima, &mut acts) {
+        Ok(s) => Rooted {
+            answer: Ok(()),
+            root: s.root,
+        },
+        Err(e) => Rooted {
+            answer: Err(e),
+            root: 0,
+        },
+    }
 }
 
 // From any bytes, into columns that show no tile. A refused one may leave them half done.

@@ -1,10 +1,10 @@
 -- Laws of the calls, over plain values: how what the parts left gives each call's promise. Assumes nothing.
-use mathlib.Core.Path.{◌≡◌, sym, ap, subst, ◌∙◌}
+use mathlib.Core.Path.{◌≡◌, refl, sym, ap, subst, ◌∙◌}
 use mathlib.Core.Bool.{Bool, true, false, ◌&&◌}
-use mathlib.Core.List.{List}
+use mathlib.Core.List.{List, ◌++◌, map}
 use Prim.Native.Nat.{ℕ, ◌≤◌}
 use native.Mathlib.Omega.{arith}
-use lib.ListN.{length}
+use lib.ListN.{length, drop}
 use lib.Ieee.{Float}
 use Rattle.rules.specs.Tree.{Arena}
 use Rattle.rules.specs.Sound.{sound}
@@ -21,14 +21,14 @@ use Rattle.rules.specs.Refusals.{Answer}
 use Rattle.rules.specs.Refusals.{Accepted, Refused}
 use Rattle.rules.specs.declared.refusal.Refusal.{Refusal}
 use Rattle.rules.specs.declared.refusal.Refusal.TheVariants.{BadTable, ArenaFull, TooWide, NotSound, BadInput, InvalidTileId, InvalidPaneId, InvalidTarget, InvalidOperation, DuplicatePane, RevisionExhausted, EmptyTabs, TooFewSplitChildren, ShareCountMismatch, InvalidShare, TooManySplitConstraints, InvalidSplitConstraint, InvalidActiveTab}
-use Rattle.columns.specs.Columns.{Lists}
+use Rattle.columns.specs.Columns.{code_of, Lists}
 use Rattle.drafting.specs.Draft.{DraftedIn}
 use Rattle.columns.specs.Shown.{arena_from}
 use Rattle.settling.specs.Settle.{Comes}
 use Rattle.settling.specs.declared.Settled.{Settled}
 use Rattle.docking.specs.Steps.{answered, Comes as Becomes}
 use Rattle.docking.proofs.FinishLaws.{ended, comes-answer, comes-tree}
-use Rattle.std.specs.Prelude.{Option as Maybe, Result}
+use Rattle.std.specs.Prelude.{Option as Maybe, Result, Ok, Err}
 use Rattle.docking.specs.declared.AppliedIn.{AppliedIn}
 use Rattle.layout.specs.Whole.{LaysOut}
 use Rattle.layout.specs.declared.LaidOut.{LaidOut}
@@ -82,23 +82,36 @@ builds bs a root hs xs ss ms l' out' n D H T =
 
 -- ---- repair
 
--- a is the arena lent, and x the rule's answer for it
-pub repairs-good : (l : Lot) (acts : List (List ℕ)) (out : List ℕ) (a : Arena) (hs xs : List (List ℕ)) (ss ms : List (List Float)) (list : List (List ℕ)) (d : Settled) (l' : Lot) (acts' : List (List ℕ)) (out' : List ℕ) (n : ℕ) → lot_ok l ≡ true
-    → a ≡ lent l → Comes a (repair a) hs xs ss ms list d → ((k : List RepairAction) → Lists list d.count k → Writes k acts acts' d.count) → Tells d.answer d.count 0 out' n
-    → Keeps n (arena_from d.root a.revision hs xs ss ms) l l' → Repairs l acts out l' acts' out' n
-repairs-good l acts out a hs xs ss ms list d l' acts' out' n g v C W T K =
+-- a is the arena that the columns showed, b the one that was lent
+pub mends-taken : (l : Lot) (acts : List (List ℕ)) (b a : Arena) (hs xs : List (List ℕ)) (ss ms : List (List Float)) (list : List (List ℕ)) (d : Settled) (l' : Lot) (acts' : List (List ℕ)) (out' : List ℕ) (n : ℕ)
+    → a ≡ b → Comes a (repair a) hs xs ss ms list (Ok d) → ((k : List RepairAction) → Lists list d.count k → Writes k acts acts' d.count) → Tells Accepted d.count 0 out' n
+    → Holds (arena_from d.root a.revision hs xs ss ms) l' → Mends (repair b) l acts l' acts' out' n
+mends-taken l acts b a hs xs ss ms list d l' acts' out' n v C W T H =
     let x = repair a in
     let Y = W x.actions C.actions in
-    record {
-      bad = λ e. absurd (no_both (lot_ok l) e g);
-      good = λ e. subst (λ (y : Repaired). Mends y l acts l' acts' out' n) (ap repair v)
-          (record {
-            told = subst (λ (k : ℕ). Tells x.answer k 0 out' n) Y.count (subst (λ (y : Answer). Tells y d.count 0 out' n) C.answer T);
-            accepted = λ p. let q = C.answer ∙ p in subst (λ (y : Arena). Holds y l') (sym (C.tree q)) (K.stored (zero-accepted d.answer n T.number q));
-            refused = λ f p. K.left (not-refused d.answer n T.number f (C.answer ∙ p));
-            actions = Y.list;
-          });
-    }
+    subst (λ (y : Repaired). Mends y l acts l' acts' out' n) (ap repair v)
+    (record {
+      told = subst (λ (k : ℕ). Tells x.answer k 0 out' n) Y.count (subst (λ (y : Answer). Tells y d.count 0 out' n) C.answer T);
+      accepted = λ p. subst (λ (y : Arena). Holds y l') (sym (C.tree refl)) H;
+      refused = λ f p. absurd (not-refused Accepted n T.number f (C.answer ∙ p) T.number);
+      actions = Y.list;
+    })
+
+pub mends-refused : (l : Lot) (acts : List (List ℕ)) (b a : Arena) (hs xs : List (List ℕ)) (ss ms : List (List Float)) (list : List (List ℕ)) (e : Refusal) (l' : Lot) (out' : List ℕ) (n : ℕ)
+    → a ≡ b → Comes a (repair a) hs xs ss ms list (Err e) → l' ≡ l → Tells (Refused e) 0 0 out' n → Mends (repair b) l acts l' acts out' n
+mends-refused l acts b a hs xs ss ms list e l' out' n v C same T =
+    let x = repair a in
+    let none = (C.given e refl).1 in
+    subst (λ (y : Repaired). Mends y l acts l' acts out' n) (ap repair v)
+    (record {
+      told = subst (λ (k : List RepairAction). Tells x.answer (length k) 0 out' n) (sym none) (subst (λ (y : Answer). Tells y 0 0 out' n) C.answer T);
+      accepted = λ p. absurd (not-refused (Refused e) n T.number e refl (zero-accepted (Refused e) n T.number (C.answer ∙ p)));
+      refused = λ f p. same;
+      actions = sym (ap (λ (k : List RepairAction). map code_of k ++ drop (length k) acts) none);
+    })
+
+pub repairs-good : (l : Lot) (acts : List (List ℕ)) (out : List ℕ) (l' : Lot) (acts' : List (List ℕ)) (out' : List ℕ) (n : ℕ) → lot_ok l ≡ true → Mends (repair (lent l)) l acts l' acts' out' n → Repairs l acts out l' acts' out' n
+repairs-good l acts out l' acts' out' n g M = record { bad = λ e. absurd (no_both (lot_ok l) e g); good = λ e. M }
 
 -- ---- is_sound
 

@@ -70,11 +70,17 @@ pub extern "C" fn tiling_repair(
     tidy::tidy_lent(heads);
     let mut list = [[0; 3]; 1300];
     let [root, revision] = *top;
-    let d = settling::settle::repair_columns(root, heads, ids, shares, minima, &mut list);
-    let n = told::tell(d.answer, d.count as u64, 0, out);
-    actions::write(&list, d.count, acts);
-    back::keep_columns(n, d.root, revision, &old, top, heads, ids, shares, minima);
-    n
+    match settling::settle::repair_columns(root, heads, ids, shares, minima, &mut list) {
+        Ok(done) => {
+            actions::write(&list, done.count, acts);
+            back::store(done.root, revision, top, heads);
+            told::tell(Ok(()), done.count as u64, 0, out)
+        }
+        Err(e) => {
+            back::put_back(&old, heads, ids, shares, minima);
+            told::tell(Err(e), 0, 0, out)
+        }
+    }
 }
 
 // Soundness of columns whose heads are fit to be read, as a number.

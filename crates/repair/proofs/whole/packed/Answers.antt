@@ -6,7 +6,7 @@ use Rattle.repair.proofs.whole.packed.Goals as goal
 pub returns-in-Ok : goal.returns-in-Ok
 returns-in-Ok c =
     let x = c.args in
-    packs-accepted x.t x.s x.heads.now x.ids.now x.shares.now x.minima.now x.acts.now _ c.in-Ok.is refl refl refl c.pack-slots.ensures c.report-actions.ensures.0
+    packs-accepted x.t x.s x.heads.now x.ids.now x.shares.now x.minima.now x.acts.now _ c.in-Ok.s c.in-Ok.is refl refl refl c.pack-slots.ensures c.report-actions.ensures.0
 
 pub returns-in-Err : goal.returns-in-Err
 returns-in-Err c =

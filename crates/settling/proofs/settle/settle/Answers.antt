@@ -1,4 +1,7 @@
 -- `settling::settle::settle` meets its contract: the walk from the root, and what each of its ends is made into. Assumes nothing.
+use Rattle.std.specs.Prelude.{Ok, Err}
+use Rattle.rules.specs.declared.refusal.Refusal.TheVariants.{TooWide}
+use mathlib.Core.Path.{refl}
 use native.Mathlib.Omega.{arith}
 use Rattle.settling.proofs.StartLaws.{start-sized}
 use Rattle.settling.proofs.PlainLaws.{slim-heads}
@@ -21,7 +24,7 @@ plant-requires c =
 pub returns-in-At : goal.returns-in-At
 returns-in-At c =
     let x = c.args in
-    ends-kept x.root x.heads.now x.ids.now x.shares.now x.minima.now c.requires.plain _ _ _ c.normalize_node-w.result.kept c.normalize_node-w.ensures x.spare _ _ c.finish.result c.in-At.top c.in-At.is c.finish.ensures
+    ends-kept x.root x.heads.now x.ids.now x.shares.now x.minima.now c.requires.plain _ _ _ c.normalize_node-w.result.kept c.normalize_node-w.ensures x.spare _ _ (Ok c.finish.result) c.in-At.top c.in-At.is c.finish.ensures
 
 pub returns-in-Gone : goal.returns-in-Gone
 returns-in-Gone c =
@@ -31,4 +34,4 @@ returns-in-Gone c =
 pub returns-in-Wide : goal.returns-in-Wide
 returns-in-Wide c =
     let x = c.args in
-    ends-wide x.root x.heads.now x.ids.now x.shares.now x.minima.now c.requires.plain _ _ _ c.normalize_node-w.result.kept c.normalize_node-w.ensures x.spare _ _ c.refused.result c.in-Wide.is c.refused.ensures
+    ends-wide x.root x.heads.now x.ids.now x.shares.now x.minima.now c.requires.plain _ _ _ c.normalize_node-w.result.kept c.normalize_node-w.ensures x.spare _ _ (Err TooWide) c.in-Wide.is (record { answer = refl; count = refl })
