@@ -17,6 +17,7 @@ fn placement_of(n: u64) -> Placement
     }
 }
 
+// Kept: a flag and a number, as the words of an operation have them for C; an Option is what comes out.
 fn index_of(given: u64, index: u64) -> Option<usize>
     ensures { result ≡ index_from given index }
 {

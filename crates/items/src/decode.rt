@@ -22,6 +22,7 @@ pub fn rect_of(q: [f64; 4]) -> Rect
     }
 }
 
+// Kept: here and below functions and no `From`: each reads a row and a rectangle, two values, and the types are of `rules`.
 pub fn pane_of(row: [u64; 5], q: [f64; 4]) -> PaneFrame
     ensures { result ≡ Lists.pane_from row q }
 {

@@ -99,6 +99,7 @@ fn melt_all(
 }
 
 // Whether two modes are the same axis: 0 is horizontal, any other vertical.
+// Kept: two numbers of heads, as C lends them, and `==` of what `modes::axis_of` makes of them is longer.
 fn same_axis(a: u64, b: u64) -> bool
     ensures { result ≡ same_axis (axis_from a) (axis_from b) }
 {

@@ -21,6 +21,7 @@ fn code_of(action: RepairAction) -> [u64; 3]
 }
 
 // The action whose numbers these are.
+// Kept: a `From<[u64; 3]>` of `RepairAction` stands in `rules` or nowhere, and `rules` holds plain types without logic.
 pub fn action_of(code: [u64; 3]) -> RepairAction
     ensures { result ≡ action_from code }
 {

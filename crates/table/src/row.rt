@@ -25,6 +25,7 @@ pub enum TableRow {
     },
 }
 
+// Kept: a `TryFrom<u64>` of `TabBarPlacement` or `Axis` stands in `rules` or nowhere, and `rules` holds plain types without logic.
 fn bar_of(mode: u64) -> Option<TabBarPlacement>
     ensures { bar_is result ≡ bar_of mode }
 {

@@ -8,6 +8,7 @@ use std::io;
 use std::io::Print;
 
 // Bytes written so far.
+// Kept: places with a length beside them, and no Vec: what the tables are made of is fixed, and nothing can fail.
 #[derive(Drop)]
 struct Written {
     at: [u8; 2048],

@@ -30,6 +30,7 @@ fn on_tile(kind: u64, tile: TileId) -> Step
     }
 }
 
+// Kept: a function that is called in one place, with its contract; a `From` would say no more.
 fn of_action(a: RepairAction) -> Step
     ensures { (result.kind ≡ action_code a + 1) × (result.tile ≡ (action_tile a).slot) × (result.pane ≡ action_pane a) }
 {
