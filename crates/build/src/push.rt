@@ -9,7 +9,7 @@ use table::row::children_used;
 use table::sections::Places;
 
 // Builds the row `at` and what stands under it; answers the row that comes next.
-// Kept: the bytes and the places are two arguments, as `push_spec` of docs/DECISIONS.md and all that it calls take them.
+// Kept: the bytes and the places are two arguments, as in all of `checks` and `build`: of one struct each clause would name both fields.
 pub fn push_spec(b: &[u8], t: Places, kids: &mut [u64; 1024], at: usize) -> usize
     requires { Ready b.now t kids.old at }
     ensures { Pushed (rows_at b.now t) kids.old kids.new at result }

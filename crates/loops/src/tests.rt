@@ -1,5 +1,5 @@
 // Tests of the first n of a list.
-// Kept: two functions of one line each: one that takes the test would say `F.pre` and `F.post` of it, and each caller would pass a closure.
+// Kept: two functions of one line each: one that takes the test would say `F.pre` and `F.post` of it, and each caller would pass it.
 ghost use Rattle.std.specs.Prelude.{◌≡◌, ◌≤◌, take};
 ghost use Rattle.rules.specs.Numbers.{share_ok, minimum_ok};
 ghost use Rattle.rules.specs.Lists.{all_of};

@@ -42,7 +42,7 @@ pub fn none_lost(heads: &[[u64; 8]; 64], claimed: &[bool; 64]) -> bool
 }
 
 // The lowest empty slot, 64 where there is none.
-// Kept: 64 is the rules' word `first_of`, in which `Settles` and docking's `Makes` take the spare slot; each caller would turn a None back into it.
+// Kept: 64 for none is the rules' word `first_of`, in which `Settles`, the clause of `settling::settle::settle`, takes the spare slot.
 pub fn first_empty(heads: &[[u64; 8]; 64]) -> u64
     ensures { (xs : List (List ℕ)) (ss ms : List (List Float)) → length xs ≡ 64 → length ss ≡ 64 → length ms ≡ 64 → result ≡ first_of (empty_slots (nodes_from heads.now xs ss ms)) }
 {

@@ -1,5 +1,5 @@
 // Minima of a split's children: the Rust's SplitConstraints.
-// Kept: no type says that a length is at most 16, since lists with one over 16 come in (`rules::model::Sixteen`) and are refused.
+// Kept: no type says that a length is at most 16: lists with one over 16 come in, and the clause of `repair::whole::repair` speaks of them.
 ghost use Rattle.std.specs.Prelude.{◌≡◌, ◌≤◌, ◌<◌, take};
 ghost use Rattle.rules.specs.Minima.{fix_minimum, aligned_constraints, compact_constraints, least_of, min_major, split_min_major};
 ghost use Rattle.rules.specs.Tree as Tree;

@@ -1,5 +1,5 @@
 // Shares of a split, and split fractions.
-// Kept: no type says that a length is at most 16, since lists with one over 16 come in (`rules::model::Sixteen`) and are refused.
+// Kept: no type says that a length is at most 16: lists with one over 16 come in, and the clause of `repair::whole::repair` speaks of them.
 ghost use Rattle.std.specs.Prelude.{◌≡◌, map, ◌≤◌, take};
 ghost use Rattle.std.specs.List.{list_any};
 ghost use Rattle.rules.specs.Numbers.{share_ok, is_valid_split_fraction};

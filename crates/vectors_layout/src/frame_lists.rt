@@ -3,7 +3,6 @@ use frame::Layout;
 use rules::frame::{
     FrameItemId, PaneFrame, Rect, SplitChildFrame, SplitHandleFrame, TabBarFrame, TabFrame,
 };
-use rules::model::Axis;
 use wire::Reader;
 
 fn same_real(body: &mut Reader, x: f64) -> bool {
@@ -21,7 +20,7 @@ fn same_pane(body: &mut Reader, f: &PaneFrame) -> bool {
 fn same_bar(body: &mut Reader, f: &TabBarFrame) -> bool {
     body.number() == f.group.slot
         && same_rect(body, f.rect)
-        && body.number() == columns::unpack::bar_code(f.placement)
+        && body.number() == f.placement as u64
         && body.number() == f.active_pane
 }
 
@@ -40,17 +39,10 @@ fn same_child(body: &mut Reader, f: &SplitChildFrame) -> bool {
         && same_rect(body, f.rect)
 }
 
-fn axis_code(a: Axis) -> u64 {
-    match a {
-        Axis::Horizontal => 0,
-        Axis::Vertical => 1,
-    }
-}
-
 fn same_handle(body: &mut Reader, f: &SplitHandleFrame) -> bool {
     body.number() == f.split.slot
         && body.number() == f.handle as u64
-        && body.number() == axis_code(f.axis)
+        && body.number() == f.axis as u64
         && same_rect(body, f.rect)
 }
 
