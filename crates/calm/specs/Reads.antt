@@ -25,10 +25,15 @@ pub record Groups (h row : List ℕ) (seen : List ℕ) (n : ℕ) (seen' : List �
   pub most : IfSome r (λ m. m ≤ n + 16)
   pub right : (cs : List Bool) → looked r cs seen' ≡ calm_group (get_or h 3 0) (take (get_or h 4 0) row) (look cs (take n seen))
 
+-- the panes that were met; of a walk that ended early none are told
+abbrev pub met : Maybe ℕ → ℕ
+met (Some m) = m
+met None = 0
+
 -- a tile was read: with room for 16 panes in each slot that is not claimed
 pub record Reads (o : Option Look) (cs : List Bool) (n : ℕ) (cs' : List Bool) (seen' : List ℕ) (r : Maybe ℕ) : Type 0 where
   pub flags : length cs' ≡ 64
-  pub room : IfSome r (λ m. m + 16 * free cs' ≤ n + 16 * free cs)
+  pub room : met r + 16 * free cs' ≤ n + 16 * free cs
   pub right : looked r cs' seen' ≡ o
 
 -- the lists of a split of n children need no mending, and the children are two or more

@@ -17,17 +17,17 @@ use Rattle.calm.proofs.nodes.+calm_node_calm_split.Goals as goal
 pub calm_node-returns-then-depth-eq0 : goal.calm_node-returns-then-depth-eq0
 calm_node-returns-then-depth-eq0 t c =
     let x = c.args in
-    ends _ x.claimed.now x.claimed.now x.n x.seen.now (calm-zero (nodes_from x.heads.now x.ids.now x.shares.now x.minima.now) x.id x.claimed.now (take x.n x.seen.now) x.depth c.if-depth-eq0.true) c.told-claimed
+    ends _ x.claimed.now x.claimed.now x.n x.seen.now (calm-zero (nodes_from x.heads.now x.ids.now x.shares.now x.minima.now) x.id x.claimed.now (take x.n x.seen.now) x.depth c.if-depth-eq0.true) c.told-claimed (omega arith)
 
 pub calm_node-returns-then-id-ge64 : goal.calm_node-returns-then-id-ge64
 calm_node-returns-then-id-ge64 t c =
     let x = c.args in
-    ends _ x.claimed.now x.claimed.now x.n x.seen.now (calm-out (nodes_from x.heads.now x.ids.now x.shares.now x.minima.now) x.id x.claimed.now (take x.n x.seen.now) c.if-id-ge64.true x.depth) c.told-claimed
+    ends _ x.claimed.now x.claimed.now x.n x.seen.now (calm-out (nodes_from x.heads.now x.ids.now x.shares.now x.minima.now) x.id x.claimed.now (take x.n x.seen.now) c.if-id-ge64.true x.depth) c.told-claimed (omega arith)
 
 pub calm_node-returns-then-claimed-i : goal.calm_node-returns-then-claimed-i
 calm_node-returns-then-claimed-i t c =
     let x = c.args in
-    ends _ x.claimed.now x.claimed.now x.n x.seen.now (calm-claimed (nodes_from x.heads.now x.ids.now x.shares.now x.minima.now) x.id x.claimed.now (take x.n x.seen.now) c.if-id-ge64.false c.if-claimed-i.true x.depth) c.told-claimed
+    ends _ x.claimed.now x.claimed.now x.n x.seen.now (calm-claimed (nodes_from x.heads.now x.ids.now x.shares.now x.minima.now) x.id x.claimed.now (take x.n x.seen.now) c.if-id-ge64.false c.if-claimed-i.true x.depth) c.told-claimed (omega arith)
 
 pub calm_node-returns-then-kind-eq0 : goal.calm_node-returns-then-kind-eq0
 calm_node-returns-then-kind-eq0 t c =
@@ -39,7 +39,7 @@ calm_node-returns-then-kind-eq0 t c =
     let deep = pos_of_ne-zero c.if-depth-eq0.false in
     let is = nodes-at x.heads.now x.ids.now x.shares.now x.minima.now c.told-heads c.told-ids c.told-shares c.told-minima x.id in
     let by : ℕ → Node = λ k. node_by k h (get_or x.ids.now x.id []) (get_or x.shares.now x.id []) (get_or x.minima.now x.id []) in
-    ends _ x.claimed.now x.claimed.now x.n x.seen.now (calm-at ns x.id x.claimed.now (take x.n x.seen.now) inside open-yet empty (is ∙ ap by c.if-kind-eq0.true) x.depth deep) c.told-claimed
+    ends _ x.claimed.now x.claimed.now x.n x.seen.now (calm-at ns x.id x.claimed.now (take x.n x.seen.now) inside open-yet empty (is ∙ ap by c.if-kind-eq0.true) x.depth deep) c.told-claimed (omega arith)
 
 pub calm_node-calm_pane-requires : goal.calm_node-calm_pane-requires
 calm_node-calm_pane-requires t c =
@@ -110,7 +110,7 @@ calm_split-returns-then-not-lists_calm t c =
     let few = (c.requires.slim x.id).0 in
     let ok = c.lists_calm.result in
     let told = c.lists_calm.ensures in
-    ends _ x.claimed.now x.claimed.now x.n x.seen.now (split-mends again ns a h xs ss ms few c.told-kids x.claimed.now x.seen.now x.n ok told c.if-not-lists_calm.true) c.told-claimed
+    ends _ x.claimed.now x.claimed.now x.n x.seen.now (split-mends again ns a h xs ss ms few c.told-kids x.claimed.now x.seen.now x.n ok told c.if-not-lists_calm.true) c.told-claimed (omega arith)
 
 pub calm_split-returns-in_err-m : goal.calm_split-returns-in_err-m
 calm_split-returns-in_err-m t c =
