@@ -1,4 +1,6 @@
 // The seven lists of a frame, compared with those that follow in a body, bit for bit.
+ghost use Rattle.std.specs.Prelude.{◌≡◌, ◌≤◌, true, IsSome};
+
 use frame::Layout;
 use rules::frame::{
     FrameItemId, PaneFrame, Rect, SplitChildFrame, SplitHandleFrame, TabBarFrame, TabFrame,
@@ -67,6 +69,7 @@ fn same_list<T, F: Fn(&mut Reader, &T) -> bool>(
     same: F,
 ) -> bool
     requires { F.IsAlwaysCallable same }
+    ensures { result ≡ true → IsSome list.entry }
 {
     let Some(list) = list else {
         return false;
@@ -83,7 +86,15 @@ fn same_list<T, F: Fn(&mut Reader, &T) -> bool>(
 }
 
 // Whether the lists are those that follow in the body.
-pub fn same_frame(body: &mut Reader, r: Layout) -> bool {
+pub fn same_frame(body: &mut Reader, r: Layout) -> bool
+    ensures panes { result ≡ true → r.panes.len ≤ 64 }
+    ensures tab_bars { result ≡ true → r.tab_bars.len ≤ 64 }
+    ensures tabs { result ≡ true → r.tabs.len ≤ 1024 }
+    ensures split_children { result ≡ true → r.split_children.len ≤ 64 }
+    ensures split_handles { result ≡ true → r.split_handles.len ≤ 64 }
+    ensures focus_order { result ≡ true → r.focus_order.len ≤ 1024 }
+    ensures paint_order { result ≡ true → r.paint_order.len ≤ 1216 }
+{
     same_list(body, r.panes.at.get(..r.panes.len), same_pane)
         && same_list(body, r.tab_bars.at.get(..r.tab_bars.len), same_bar)
         && same_list(body, r.tabs.at.get(..r.tabs.len), same_tab)

@@ -1,4 +1,4 @@
-// The stored layouts (docs/VECTORS.md), put to the library and compared bit for bit.
+// vectors_layout: the stored layouts (docs/VECTORS.md), put to the library and compared bit for bit.
 #![tactic(auto)]
 
 ghost use Rattle.std.specs.Prelude.{◌≤◌};

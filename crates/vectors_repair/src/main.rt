@@ -1,4 +1,4 @@
-// The stored repairs (docs/VECTORS.md), put to the library and compared bit for bit.
+// vectors_repair: the stored repairs (docs/VECTORS.md), put to the library and compared bit for bit.
 #![tactic(auto)]
 
 ghost use Rattle.std.specs.Prelude.{◌≡◌, ◌+◌};

@@ -1,4 +1,4 @@
-// The stored answers of the solver (docs/VECTORS.md), put to the library and compared bit for bit.
+// vectors_solver: the stored answers of the solver (docs/VECTORS.md), put to the library and compared bit for bit.
 #![tactic(auto)]
 
 use answers::Told;

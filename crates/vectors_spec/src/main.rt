@@ -1,4 +1,4 @@
-// The stored specs (docs/VECTORS.md), put to the library and compared bit for bit.
+// vectors_spec: the stored specs (docs/VECTORS.md), put to the library and compared bit for bit.
 #![tactic(auto)]
 
 use answers::Told;
