@@ -6,8 +6,11 @@ ghost use Rattle.coding.specs.Lent.{code_ok, codes_ok, sides_ok, target_ok, op_o
 fn code_ok(h: [u64; 8]) -> bool
     ensures { result ≡ code_ok h }
 {
+    // Most slots are empty or hold a pane: of a match of all four the compiler makes a test that asks for these two last.
+    if h[0] < 2 {
+        return true;
+    }
     match h[0] {
-        0 | 1 => true,
         2 => h[1] < 5,
         3 => h[1] < 2,
         _ => false,

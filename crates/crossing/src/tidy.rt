@@ -1,5 +1,5 @@
 // Heads as the calls on columns read them: a lent head may hold any number in a place that its kind doesn't use, and so a length that is none.
-ghost use Rattle.std.specs.Prelude.{◌≡◌};
+ghost use Rattle.std.specs.Prelude.{◌≡◌, map};
 ghost use Rattle.coding.specs.Lent.{tidied};
 ghost use Rattle.crossing.specs.Parts.{tidy_heads};
 
@@ -16,6 +16,15 @@ fn tidy_head(h: [u64; 8]) -> [u64; 8]
     }
 }
 
+// A loop and no `map`: an array's `map` makes a second array, and takes three times as long.
+fn tidy_all(heads: &mut [[u64; 8]; 64])
+    ensures { heads.new ≡ map tidied heads.old }
+{
+    for i in 0..64 {
+        heads[i] = tidy_head(heads[i]);
+    }
+}
+
 // The heads themselves, made tidy. Where no length is over 16, as in all that a call leaves, nothing is written.
 pub fn tidy_lent(heads: &mut [[u64; 8]; 64])
     ensures { heads.new ≡ tidy_heads heads.old }
@@ -23,7 +32,7 @@ pub fn tidy_lent(heads: &mut [[u64; 8]; 64])
     if !unpack::heads_over(heads) {
         return;
     }
-    *heads = heads.map(tidy_head);
+    tidy_all(heads)
 }
 
 // The same of a copy, for calls that only read.

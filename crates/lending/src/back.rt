@@ -1,6 +1,6 @@
 // What a call leaves in the lent arrays: the columns that it made there, in codes that every call takes, or those that were lent.
 // Kept: the four columns are four parameters (why: columns/src/lib.rt).
-ghost use Rattle.std.specs.Prelude.{◌≡◌, List, ℕ, Float};
+ghost use Rattle.std.specs.Prelude.{◌≡◌, List, map, ℕ, Float};
 ghost use Rattle.rules.specs.Tree.{bar_code, axis_code};
 ghost use Rattle.columns.specs.Columns.{bar_from, axis_from};
 ghost use Rattle.columns.specs.Shown.{arena_from};
@@ -35,6 +35,15 @@ fn fit_head(h: [u64; 8]) -> [u64; 8]
     }
 }
 
+// A loop and no `map`, as in `crossing::tidy::tidy_all`.
+fn fit_all(heads: &mut [[u64; 8]; 64])
+    ensures { heads.new ≡ map fitted heads.old }
+{
+    for i in 0..64 {
+        heads[i] = fit_head(heads[i]);
+    }
+}
+
 // Where every code is one that calls take, nothing is written.
 fn fit(heads: &mut [[u64; 8]; 64])
     ensures { heads.new ≡ fit_heads heads.old }
@@ -42,7 +51,7 @@ fn fit(heads: &mut [[u64; 8]; 64])
     if codes::codes_ok(heads) {
         return;
     }
-    *heads = heads.map(fit_head);
+    fit_all(heads)
 }
 
 // The lent arrays hold the arena that the columns in them show. Ids, shares and minima stay as they are, whatever they are.
