@@ -3,8 +3,7 @@ use mathlib.Core.Path.{◌≡◌, refl, sym, ap, ◌∙◌}
 use mathlib.Core.Bool.{Bool, true, false, cond}
 use mathlib.Core.List.{List, [], ◌∷◌, ◌++◌}
 use mathlib.Core.Option.{Option, none, some}
-use Rattle.std.specs.Prelude.{Option as Maybe, Some, None}
-use Rattle.std.proofs.lemmas.Option.{IfSome_then}
+use Rattle.std.specs.Prelude.{Result, Ok, Err, IsErrAnd}
 use Prim.Native.Nat.{ℕ, ◌+◌, ◌≤◌, ◌<◌}
 use native.Mathlib.Numerals.{add-one}
 use native.Mathlib.Omega.{arith}
@@ -30,9 +29,14 @@ some_same : (x y : List ℕ) → some x ≡ some y → x ≡ y
 some_same x y z = let w : or_none (some x) ≡ or_none (some y) = ap or_none z in w
 
 -- what is claimed beside what was seen
-pub looked-seen : (cs : List Bool) (seen : List ℕ) (r : Maybe ℕ) → looked r cs seen ≡ seeing cs (sighted r seen)
-looked-seen cs seen (Some m) = refl
-looked-seen cs seen None = refl
+pub looked-seen : (cs : List Bool) (seen : List ℕ) (r : Result ℕ ℕ) → looked r cs seen ≡ seeing cs (sighted r seen)
+looked-seen cs seen (Ok m) = refl
+looked-seen cs seen (Err m) = refl
+
+-- the count that a `?` hands on
+pub hands-on : (k : ℕ) (r : Result ℕ ℕ) → IsErrAnd r (λ y. y ≡ k) → r ≡ Err k
+hands-on k (Ok m) h = absurd h
+hands-on k (Err m) h = ap Err h
 
 -- ---- one pane
 
@@ -44,10 +48,10 @@ unfolding calm_panes
 one-is p s = refl
 
 module _ (p : ℕ) (seen : List ℕ) (n : ℕ) where
-  pub sights-no : contains p (take n seen) ≡ true → Sights (p ∷ []) seen n seen None
-  sights-no e = record { most = tt; right = sym (one-is p (take n seen) ∙ ap (λ (b : Bool). one b p (take n seen)) e) }
+  pub sights-no : contains p (take n seen) ≡ true → Sights (p ∷ []) seen n seen (Err n)
+  sights-no e = record { most = omega arith; right = sym (one-is p (take n seen) ∙ ap (λ (b : Bool). one b p (take n seen)) e) }
 
-  pub sights-yes : (seen' : List ℕ) (m : ℕ) → contains p (take n seen) ≡ false → m ≡ n + 1 → take m seen' ≡ take n seen ++ p ∷ [] → Sights (p ∷ []) seen n seen' (Some m)
+  pub sights-yes : (seen' : List ℕ) (m : ℕ) → contains p (take n seen) ≡ false → m ≡ n + 1 → take m seen' ≡ take n seen ++ p ∷ [] → Sights (p ∷ []) seen n seen' (Ok m)
   sights-yes seen' m e f g = record { most = omega (arith, f); right = ap some g ∙ sym (one-is p (take n seen) ∙ ap (λ (b : Bool). one b p (take n seen)) e) }
 
 -- ---- panes, one by one
@@ -74,7 +78,7 @@ module _ (ps seen₀ : List ℕ) (n : ℕ) where
       unfolding calm_panes
       step = sym L.left ∙ ap (λ (l : List ℕ). calm_panes l s) (drop-cons ps j 0 h ∙ ap (λ (k : ℕ). p ∷ drop k ps) (sym (add-one j)))
 
-      one-was : (r : Maybe ℕ) → Sights (x ∷ []) seen m seen' r → sighted r seen' ≡ one (contains p s) p s
+      one-was : (r : Result ℕ ℕ) → Sights (x ∷ []) seen m seen' r → sighted r seen' ≡ one (contains p s) p s
       one-was r S = S.right ∙ one-is x s ∙ ap (λ (y : ℕ). one (contains y s) y s) (sym at)
 
       new : (l : List ℕ) (b : Bool) → some l ≡ one b p s → (b ≡ false) × (l ≡ s ++ p ∷ [])
@@ -85,23 +89,23 @@ module _ (ps seen₀ : List ℕ) (n : ℕ) where
       old true e = refl
       old false e = some-none (sym e)
 
-      pub looking-more : (k : ℕ) → Sights (x ∷ []) seen m seen' (Some k) → Looking ps seen₀ n seen' k (j + 1)
+      pub looking-more : (k : ℕ) → Sights (x ∷ []) seen m seen' (Ok k) → Looking ps seen₀ n seen' k (j + 1)
       looking-more k S =
-          let (fresh, now) = new (take k seen') (contains p s) (one-was (Some k) S) in
+          let (fresh, now) = new (take k seen') (contains p s) (one-was (Ok k) S) in
           record {
             few = omega arith;
             most = omega (arith, S.most, L.most);
             left = ap (calm_panes (drop (j + 1) ps)) now ∙ sym (step ∙ ap (λ (b : Bool). cond b none (calm_panes (drop (j + 1) ps) (s ++ p ∷ []))) fresh);
           }
 
-      pub looking-stop : Sights (x ∷ []) seen m seen' None → Sights ps seen₀ n seen' None
-      looking-stop S =
+      pub looking-stop : (k : ℕ) → Sights (x ∷ []) seen m seen' (Err k) → Sights ps seen₀ n seen' (Err k)
+      looking-stop k S =
           record {
-            most = tt;
-            right = sym (step ∙ ap (λ (b : Bool). cond b none (calm_panes (drop (j + 1) ps) (s ++ p ∷ []))) (old (contains p s) (one-was None S)));
+            most = omega (arith, S.most, L.most, h);
+            right = sym (step ∙ ap (λ (b : Bool). cond b none (calm_panes (drop (j + 1) ps) (s ++ p ∷ []))) (old (contains p s) (one-was (Err k) S)));
           }
 
-    pub looking-done : length ps ≤ j → Sights ps seen₀ n seen (Some m)
+    pub looking-done : length ps ≤ j → Sights ps seen₀ n seen (Ok m)
     unfolding calm_panes
     looking-done h = record { most = omega (arith, L.most, L.few); right = sym (ap (λ (l : List ℕ). calm_panes l (take m seen)) (drop_of_length-le ps h)) ∙ L.left }
 
@@ -116,18 +120,18 @@ module _ (hs xs : List (List ℕ)) (ss ms : List (List Float)) (h : length hs �
 
 module _ (h row : List ℕ) (seen : List ℕ) (n : ℕ) where
   -- no pane is at the active index
-  pub group-no : get_or h 4 0 ≤ get_or h 3 0 → Groups h row seen n seen None
-  group-no p =
+  pub group-no : get_or h 4 0 ≤ get_or h 3 0 → (m : ℕ) → m ≤ n + 16 → Groups h row seen n seen (Err m)
+  group-no p m g =
       record {
-        most = tt;
+        most = g;
         right = λ cs. ap (λ (b : Bool). cond b (seeing cs (calm_panes (take (get_or h 4 0) row) (take n seen))) none) (sym (le-ltb (get_or h 3 0) (length (take (get_or h 4 0) row)) (omega (arith, length-take (get_or h 4 0) row))));
       }
 
-  pub group-yes : get_or h 3 0 < get_or h 4 0 → get_or h 4 0 ≤ 16 → length row ≡ 16 → (seen' : List ℕ) (r : Maybe ℕ) → Sights (take (get_or h 4 0) row) seen n seen' r → Groups h row seen n seen' r
+  pub group-yes : get_or h 3 0 < get_or h 4 0 → get_or h 4 0 ≤ 16 → length row ≡ 16 → (seen' : List ℕ) (r : Result ℕ ℕ) → Sights (take (get_or h 4 0) row) seen n seen' r → Groups h row seen n seen' r
   group-yes p q l seen' r S =
       let long : length (take (get_or h 4 0) row) ≡ get_or h 4 0 = length-take-le (get_or h 4 0) row (omega arith) in
       record {
-        most = IfSome_then r S.most (λ m g. omega (arith, long, g));
+        most = omega (arith, S.most, long);
         right = λ cs.
             looked-seen cs seen' r ∙ ap (seeing cs) S.right
             ∙ ap (λ (b : Bool). cond b (seeing cs (calm_panes (take (get_or h 4 0) row) (take n seen))) none) (sym (lt-ltb (get_or h 3 0) (length (take (get_or h 4 0) row)) (omega (arith, long))));

@@ -3,7 +3,7 @@ use mathlib.Core.Path.{◌≡◌, refl, sym, ap, subst, ◌∙◌}
 use mathlib.Core.Bool.{Bool, true, false, ◌&&◌, cond}
 use mathlib.Core.List.{List, [], ◌∷◌, map}
 use mathlib.Core.Option.{Option, none, some}
-use Rattle.std.specs.Prelude.{Option as Maybe, Some, None, IfSome}
+use Rattle.std.specs.Prelude.{Result, Ok, Err}
 use Prim.Native.Nat.{ℕ, zero, suc, ◌+◌, ◌-◌, ◌*◌, ◌≤◌, ◌<◌}
 use native.Mathlib.Numerals.{add-one}
 use native.Mathlib.Omega.{arith}
@@ -24,7 +24,7 @@ use Rattle.forest.specs.Still.{none_lost}
 use Rattle.forest.specs.Lengths.{aligned-length}
 use Rattle.normalize.proofs.WalkLaws.{entries_at, entries-long}
 use Rattle.calm.specs.Calm.{Look, look, taking, calm_panes, seeing, calm_group, unmelted, calm_kids, calm_split, calm_node, calm_tile, calm, calm_end}
-use Rattle.calm.specs.Reads.{looked, met, Sights, Groups, Reads, lists_calm}
+use Rattle.calm.specs.Reads.{looked, Sights, Groups, Reads, lists_calm}
 use Rattle.calm.proofs.Laws.{looked-seen}
 use Rattle.calm.proofs.ListLaws.{shares-long, melts-same}
 
@@ -56,9 +56,9 @@ module _ (ns : List Node) (i : ℕ) (cs : List Bool) (s : List ℕ) where
       less : suc d - 1 ≡ d
       less = omega arith
 
--- the walk ends, and what was claimed and seen is no more asked
-pub ends : (o : Option Look) (cs cs' : List Bool) (n : ℕ) (seen' : List ℕ) → none ≡ o → length cs' ≡ 64 → 16 * free cs' ≤ n + 16 * free cs → Reads o cs n cs' seen' None
-ends o cs cs' n seen' e l h = record { flags = l; room = omega (arith, h); right = e }
+-- the walk ends with m panes seen, and what they are is no more asked
+pub ends : (o : Option Look) (cs cs' : List Bool) (n : ℕ) (seen' : List ℕ) (m : ℕ) → none ≡ o → length cs' ≡ 64 → m + 16 * free cs' ≤ n + 16 * free cs → Reads o cs n cs' seen' (Err m)
+ends o cs cs' n seen' m e l h = record { flags = l; room = h; right = e }
 
 -- ---- a slot claimed, and what is read in it
 
@@ -72,18 +72,14 @@ module _ (cs : List Bool) (i : ℕ) (long : length cs ≡ 64) (inside : i < 64) 
   pub long' : length cs' ≡ 64
   long' = length-set cs i true ∙ long
 
-  room-of : (r : Maybe ℕ) (k : ℕ) → IfSome r (λ m. m ≤ n + k) → k ≤ 16 → met r + 16 * free cs' ≤ n + 16 * free cs
-  room-of (Some m) k h g = omega (arith, h, g, one_less)
-  room-of None k h g = omega (arith, one_less)
-
-  pub pane-read : (p : ℕ) (seen' : List ℕ) (r : Maybe ℕ) → Sights (p ∷ []) seen n seen' r → (o : Option Look) → seeing cs' (calm_panes (p ∷ []) (take n seen)) ≡ o → Reads o cs n cs' seen' r
+  pub pane-read : (p : ℕ) (seen' : List ℕ) (r : Result ℕ ℕ) → Sights (p ∷ []) seen n seen' r → (o : Option Look) → seeing cs' (calm_panes (p ∷ []) (take n seen)) ≡ o → Reads o cs n cs' seen' r
   pane-read p seen' r S o e =
-      record { flags = long'; room = room-of r 1 S.most (omega arith); right = looked-seen cs' seen' r ∙ ap (seeing cs') S.right ∙ e }
+      record { flags = long'; room = omega (arith, S.most, one_less); right = looked-seen cs' seen' r ∙ ap (seeing cs') S.right ∙ e }
 
-  pub group-read : (h row : List ℕ) (seen' : List ℕ) (r : Maybe ℕ) → Groups h row seen n seen' r → (o : Option Look) → calm_group (get_or h 3 0) (take (get_or h 4 0) row) (look cs' (take n seen)) ≡ o → Reads o cs n cs' seen' r
-  group-read h row seen' r G o e = record { flags = long'; room = room-of r 16 G.most (omega arith); right = G.right cs' ∙ e }
+  pub group-read : (h row : List ℕ) (seen' : List ℕ) (r : Result ℕ ℕ) → Groups h row seen n seen' r → (o : Option Look) → calm_group (get_or h 3 0) (take (get_or h 4 0) row) (look cs' (take n seen)) ≡ o → Reads o cs n cs' seen' r
+  group-read h row seen' r G o e = record { flags = long'; room = omega (arith, G.most, one_less); right = G.right cs' ∙ e }
 
-  pub split-read : (o : Option Look) (cs'' : List Bool) (seen' : List ℕ) (r : Maybe ℕ) → Reads o cs' n cs'' seen' r → (o' : Option Look) → o ≡ o' → Reads o' cs n cs'' seen' r
+  pub split-read : (o : Option Look) (cs'' : List Bool) (seen' : List ℕ) (r : Result ℕ ℕ) → Reads o cs' n cs'' seen' r → (o' : Option Look) → o ≡ o' → Reads o' cs n cs'' seen' r
   split-read o cs'' seen' r R o' e = record { flags = R.flags; room = omega (arith, R.room, one_less); right = R.right ∙ e }
 
 -- ---- a split's children, one by one
@@ -109,19 +105,19 @@ module _ (again : TileId → Look → Option Look) (ns : List Node) (a : Axis) (
 
   module _ (cs : List Bool) (seen : List ℕ) (m j : ℕ) (G : Going again ns a es cs₀ seen₀ n cs seen m j) where
     module _ (d : Entry) (h : j < length es) (child : ℕ) (share minimum : Float) (at : get_or es j d ≡ entry (tile child) share minimum) (cs' : List Bool) (seen' : List ℕ) where
-      step : (r : Maybe ℕ) → Reads (again (tile child) (look cs (take m seen))) cs m cs' seen' r
+      step : (r : Result ℕ ℕ) → Reads (again (tile child) (look cs (take m seen))) cs m cs' seen' r
           → whole ≡ calm_kids again ns a (drop (j + 1) es) (unmelted ns a (entry (tile child) share minimum) (looked r cs' seen'))
       unfolding calm_kids
       step r R =
           sym G.left ∙ ap (λ (x : List Entry). calm_kids again ns a x (some (look cs (take m seen)))) (drop-cons es j d h ∙ (λ z. at z ∷ drop (sym (add-one j) z) es))
           ∙ ap (λ (o : Option Look). calm_kids again ns a (drop (j + 1) es) (unmelted ns a (entry (tile child) share minimum) o)) (sym R.right)
 
-      pub going-stop : Reads (again (tile child) (look cs (take m seen))) cs m cs' seen' None → none ≡ whole
-      going-stop R = sym (step None R ∙ kids-none again ns a (drop (j + 1) es))
+      pub going-stop : (k : ℕ) → Reads (again (tile child) (look cs (take m seen))) cs m cs' seen' (Err k) → none ≡ whole
+      going-stop k R = sym (step (Err k) R ∙ kids-none again ns a (drop (j + 1) es))
 
-      module _ (k : ℕ) (R : Reads (again (tile child) (look cs (take m seen))) cs m cs' seen' (Some k)) where
+      module _ (k : ℕ) (R : Reads (again (tile child) (look cs (take m seen))) cs m cs' seen' (Ok k)) where
         kept : (b : Bool) → melts a minimum (node_at ns (tile child)) ≡ b → whole ≡ calm_kids again ns a (drop (j + 1) es) (cond b none (some (look cs' (take k seen'))))
-        kept b q = step (Some k) R ∙ ap (λ (c : Bool). calm_kids again ns a (drop (j + 1) es) (cond c none (some (look cs' (take k seen'))))) q
+        kept b q = step (Ok k) R ∙ ap (λ (c : Bool). calm_kids again ns a (drop (j + 1) es) (cond c none (some (look cs' (take k seen'))))) q
 
         pub going-melts : melts a minimum (node_at ns (tile child)) ≡ true → none ≡ whole
         going-melts q = sym (kept true q ∙ kids-none again ns a (drop (j + 1) es))
@@ -218,20 +214,20 @@ module _ (again : TileId → Look → Option Look) (ns : List Node) (a : Axis) (
           more : j < length children
           more = omega (arith, kids-long)
 
-          pub kid-stops : Reads (again (tile child) (look cs (take m seen))) cs m cs' seen' None → (r : Maybe ℕ) → r ≡ None → Reads split-whole cs₀ n cs' seen' r
-          kid-stops W r e = subst (λ (r : Maybe ℕ). Reads split-whole cs₀ n cs' seen' r) (sym e) (ends split-whole cs₀ cs' n seen' (going-stop again ns a children cs₀ seen₀ n cs seen m j G none-there more child share minimum at cs' seen' W ∙ all) W.flags (omega (arith, W.room, G.room)))
+          pub kid-stops : (k : ℕ) → Reads (again (tile child) (look cs (take m seen))) cs m cs' seen' (Err k) → (r : Result ℕ ℕ) → r ≡ Err k → Reads split-whole cs₀ n cs' seen' r
+          kid-stops k W r e = subst (λ (r : Result ℕ ℕ). Reads split-whole cs₀ n cs' seen' r) (sym e) (ends split-whole cs₀ cs' n seen' k (going-stop again ns a children cs₀ seen₀ n cs seen m j G none-there more child share minimum at cs' seen' k W ∙ all) W.flags (omega (arith, W.room, G.room)))
 
-          module _ (k : ℕ) (W : Reads (again (tile child) (look cs (take m seen))) cs m cs' seen' (Some k)) (x : Float) (is : x ≡ get_or least j zero-f) (t : Bool) (melting : t ≡ melts a x (node_at ns (tile child))) where
+          module _ (k : ℕ) (W : Reads (again (tile child) (look cs (take m seen))) cs m cs' seen' (Ok k)) (x : Float) (is : x ≡ get_or least j zero-f) (t : Bool) (melting : t ≡ melts a x (node_at ns (tile child))) where
             melts-is : melts a minimum (node_at ns (tile child)) ≡ t
             melts-is = sym (melting ∙ ap (λ (y : Float). melts a y (node_at ns (tile child))) is ∙ melts-same a count by least calm-lists j inside (node_at ns (tile child)))
 
-            pub kid-melts : t ≡ true → Reads split-whole cs₀ n cs' seen' None
-            kid-melts e = ends split-whole cs₀ cs' n seen' (going-melts again ns a children cs₀ seen₀ n cs seen m j G none-there more child share minimum at cs' seen' k W (melts-is ∙ e) ∙ all) W.flags (omega (arith, W.room, G.room))
+            pub kid-melts : t ≡ true → Reads split-whole cs₀ n cs' seen' (Err k)
+            kid-melts e = ends split-whole cs₀ cs' n seen' k (going-melts again ns a children cs₀ seen₀ n cs seen m j G none-there more child share minimum at cs' seen' k W (melts-is ∙ e) ∙ all) W.flags (omega (arith, W.room, G.room))
 
             pub kid-stays : t ≡ false → Going again ns a children cs₀ seen₀ n cs' seen' k (j + 1)
             kid-stays e = going_more again ns a children cs₀ seen₀ n cs seen m j G none-there more child share minimum at cs' seen' k W (melts-is ∙ e)
 
-        pub kids-done : count ≤ j → Reads split-whole cs₀ n cs seen (Some m)
+        pub kids-done : count ≤ j → Reads split-whole cs₀ n cs seen (Ok m)
         kids-done h = record { flags = G.flags; room = G.room; right = going_done again ns a children cs₀ seen₀ n cs seen m j G (omega (arith, kids-long)) ∙ all }
 
 -- ---- the end

@@ -1,6 +1,6 @@
 // Soundness by a walk that only reads: repair's walk (normalize_node and normalize_split, tree.rs) up to the first thing that it would note. Nothing is
 // written but which slots are claimed and which panes were seen, so the columns are read where they stand.
-// Each step answers how many panes were seen, or None where repair would note something.
+// Each step answers how many panes were seen: Ok where the walk goes on, and Err where repair would note something.
 #![tactic(auto)]
 
 pub mod leaves;

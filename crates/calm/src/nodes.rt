@@ -35,25 +35,25 @@ pub fn calm_node(
     n: usize,
     id: u64,
     depth: u64,
-) -> Option<usize>
+) -> Result<usize, usize>
     requires slim { (i : ℕ) → Slim (get_or heads.now i []) }
     requires room { n + 16 * free claimed.old ≤ 1024 }
     ensures { Reads (calm depth (nodes_from heads.now ids.now shares.now minima.now) (tile id) (look claimed.old (take n seen.old))) claimed.old n claimed.new seen.new result }
 {
     if depth == 0 {
-        return None;
+        return Err(n);
     }
     if 64 <= id {
-        return None;
+        return Err(n);
     }
     let i = id as usize;
     if claimed[i] {
-        return None;
+        return Err(n);
     }
     let h = heads[i];
     let kind = h[0];
     if kind == 0 {
-        return None;
+        return Err(n);
     }
     claimed[i] = true;
     if kind == 1 {
@@ -89,7 +89,7 @@ fn calm_split(
     id: u64,
     kids: &[u64; 16],
     depth: u64,
-) -> Option<usize>
+) -> Result<usize, usize>
     requires slim { (i : ℕ) → Slim (get_or heads.now i []) }
     requires room { n + 16 * free claimed.old ≤ 1024 }
     requires inside { id < 64 }
@@ -97,7 +97,7 @@ fn calm_split(
 {
     let i = id as usize;
     if !split_lists::lists_calm(heads, shares, minima, i) {
-        return None;
+        return Err(n);
     }
     let mode = heads[i][1];
     let count = heads[i][4] as usize;
@@ -108,8 +108,8 @@ fn calm_split(
         m = calm_node(heads, ids, shares, minima, claimed, seen, m, child, depth)?;
         let minimum = split_lists::minimum_at(&minima[i], least, j);
         if melts_in(heads, child, mode, minimum) {
-            return None;
+            return Err(m);
         }
     }
-    Some(m)
+    Ok(m)
 }

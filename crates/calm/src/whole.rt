@@ -32,5 +32,5 @@ pub fn calm_columns(
         root,
         64,
     );
-    walked.is_some() && sweep::none_lost(heads, &claimed)
+    walked.is_ok() && sweep::none_lost(heads, &claimed)
 }

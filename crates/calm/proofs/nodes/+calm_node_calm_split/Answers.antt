@@ -5,29 +5,30 @@ use Prim.Native.Nat.{ℕ}
 use native.Mathlib.Nat.{pos_of_ne-zero}
 use native.Mathlib.Omega.{arith}
 use lib.ListN.{take, get_or}
-use Rattle.std.specs.Prelude.{Option}
+use Rattle.std.specs.Prelude.{Result}
 use Rattle.rules.specs.Tree.{Node, empty, pane, tile}
 use Rattle.columns.specs.Columns.{axis_from, node_by, nodes_from}
 use Rattle.columns.specs.ColumnLaws.{nodes-at, split-of}
 use Rattle.calm.specs.Calm.{look, calm}
 use Rattle.calm.specs.Reads.{Reads}
+use Rattle.calm.proofs.Laws.{hands-on}
 use Rattle.calm.proofs.NodeLaws.{calm-zero, calm-out, calm-claimed, calm-at, ends, one_less, pane-read, group-read, split-read, split-mends, kid-stops, kid-melts, kid-stays, kids-done}
 use Rattle.calm.proofs.nodes.+calm_node_calm_split.Goals as goal
 
 pub calm_node-returns-then-depth-eq0 : goal.calm_node-returns-then-depth-eq0
 calm_node-returns-then-depth-eq0 t c =
     let x = c.args in
-    ends _ x.claimed.now x.claimed.now x.n x.seen.now (calm-zero (nodes_from x.heads.now x.ids.now x.shares.now x.minima.now) x.id x.claimed.now (take x.n x.seen.now) x.depth c.if-depth-eq0.true) c.told-claimed (omega arith)
+    ends _ x.claimed.now x.claimed.now x.n x.seen.now x.n (calm-zero (nodes_from x.heads.now x.ids.now x.shares.now x.minima.now) x.id x.claimed.now (take x.n x.seen.now) x.depth c.if-depth-eq0.true) c.told-claimed (omega arith)
 
 pub calm_node-returns-then-id-ge64 : goal.calm_node-returns-then-id-ge64
 calm_node-returns-then-id-ge64 t c =
     let x = c.args in
-    ends _ x.claimed.now x.claimed.now x.n x.seen.now (calm-out (nodes_from x.heads.now x.ids.now x.shares.now x.minima.now) x.id x.claimed.now (take x.n x.seen.now) c.if-id-ge64.true x.depth) c.told-claimed (omega arith)
+    ends _ x.claimed.now x.claimed.now x.n x.seen.now x.n (calm-out (nodes_from x.heads.now x.ids.now x.shares.now x.minima.now) x.id x.claimed.now (take x.n x.seen.now) c.if-id-ge64.true x.depth) c.told-claimed (omega arith)
 
 pub calm_node-returns-then-claimed-i : goal.calm_node-returns-then-claimed-i
 calm_node-returns-then-claimed-i t c =
     let x = c.args in
-    ends _ x.claimed.now x.claimed.now x.n x.seen.now (calm-claimed (nodes_from x.heads.now x.ids.now x.shares.now x.minima.now) x.id x.claimed.now (take x.n x.seen.now) c.if-id-ge64.false c.if-claimed-i.true x.depth) c.told-claimed (omega arith)
+    ends _ x.claimed.now x.claimed.now x.n x.seen.now x.n (calm-claimed (nodes_from x.heads.now x.ids.now x.shares.now x.minima.now) x.id x.claimed.now (take x.n x.seen.now) c.if-id-ge64.false c.if-claimed-i.true x.depth) c.told-claimed (omega arith)
 
 pub calm_node-returns-then-kind-eq0 : goal.calm_node-returns-then-kind-eq0
 calm_node-returns-then-kind-eq0 t c =
@@ -39,7 +40,7 @@ calm_node-returns-then-kind-eq0 t c =
     let deep = pos_of_ne-zero c.if-depth-eq0.false in
     let is = nodes-at x.heads.now x.ids.now x.shares.now x.minima.now c.told-heads c.told-ids c.told-shares c.told-minima x.id in
     let by : ℕ → Node = λ k. node_by k h (get_or x.ids.now x.id []) (get_or x.shares.now x.id []) (get_or x.minima.now x.id []) in
-    ends _ x.claimed.now x.claimed.now x.n x.seen.now (calm-at ns x.id x.claimed.now (take x.n x.seen.now) inside open-yet empty (is ∙ ap by c.if-kind-eq0.true) x.depth deep) c.told-claimed (omega arith)
+    ends _ x.claimed.now x.claimed.now x.n x.seen.now x.n (calm-at ns x.id x.claimed.now (take x.n x.seen.now) inside open-yet empty (is ∙ ap by c.if-kind-eq0.true) x.depth deep) c.told-claimed (omega arith)
 
 pub calm_node-calm_pane-requires : goal.calm_node-calm_pane-requires
 calm_node-calm_pane-requires t c =
@@ -110,7 +111,7 @@ calm_split-returns-then-not-lists_calm t c =
     let few = (c.requires.slim x.id).0 in
     let ok = c.lists_calm.result in
     let told = c.lists_calm.ensures in
-    ends _ x.claimed.now x.claimed.now x.n x.seen.now (split-mends again ns a h xs ss ms few c.told-kids x.claimed.now x.seen.now x.n ok told c.if-not-lists_calm.true) c.told-claimed (omega arith)
+    ends _ x.claimed.now x.claimed.now x.n x.seen.now x.n (split-mends again ns a h xs ss ms few c.told-kids x.claimed.now x.seen.now x.n ok told c.if-not-lists_calm.true) c.told-claimed (omega arith)
 
 pub calm_split-returns-in_err-m : goal.calm_split-returns-in_err-m
 calm_split-returns-in_err-m t c =
@@ -127,8 +128,9 @@ calm_split-returns-in_err-m t c =
     let told = c.lists_calm.ensures in
     let yes = c.if-not-lists_calm.false in
     let w = c.calm_node in
-    let W = subst (λ (r : Option ℕ). Reads (again (tile (get_or xs c.loop-j.j 0)) (look c.loop-j.claimed (take c.loop-j.m c.loop-j.seen))) c.loop-j.claimed c.loop-j.m w.new.claimed w.new.seen r) c.in_err-m.was w.ensures in
-    kid-stops again ns a h xs ss ms few c.told-kids x.claimed.now x.seen.now x.n ok told yes c.loop-j.claimed c.loop-j.seen c.loop-j.m c.loop-j.j c.loop-j.invariant c.loop-j-test.true w.new.claimed w.new.seen W c.from_residual.result c.from_residual.ensures
+    let k = c.in_err-m.field-0.0 in
+    let W = subst (λ (r : Result ℕ ℕ). Reads (again (tile (get_or xs c.loop-j.j 0)) (look c.loop-j.claimed (take c.loop-j.m c.loop-j.seen))) c.loop-j.claimed c.loop-j.m w.new.claimed w.new.seen r) c.in_err-m.was w.ensures in
+    kid-stops again ns a h xs ss ms few c.told-kids x.claimed.now x.seen.now x.n ok told yes c.loop-j.claimed c.loop-j.seen c.loop-j.m c.loop-j.j c.loop-j.invariant c.loop-j-test.true w.new.claimed w.new.seen k W c.from_residual.result (hands-on k c.from_residual.result c.from_residual.ensures.1)
 
 pub calm_split-returns-then-melts_in : goal.calm_split-returns-then-melts_in
 calm_split-returns-then-melts_in t c =
@@ -145,7 +147,7 @@ calm_split-returns-then-melts_in t c =
     let told = c.lists_calm.ensures in
     let yes = c.if-not-lists_calm.false in
     let w = c.calm_node in
-    let W = subst (λ (r : Option ℕ). Reads (again (tile (get_or xs c.loop-j.j 0)) (look c.loop-j.claimed (take c.loop-j.m c.loop-j.seen))) c.loop-j.claimed c.loop-j.m w.new.claimed w.new.seen r) c.in_ok-m.was w.ensures in
+    let W = subst (λ (r : Result ℕ ℕ). Reads (again (tile (get_or xs c.loop-j.j 0)) (look c.loop-j.claimed (take c.loop-j.m c.loop-j.seen))) c.loop-j.claimed c.loop-j.m w.new.claimed w.new.seen r) c.in_ok-m.was w.ensures in
     kid-melts again ns a h xs ss ms few c.told-kids x.claimed.now x.seen.now x.n ok told yes c.loop-j.claimed c.loop-j.seen c.loop-j.m c.loop-j.j c.loop-j.invariant c.loop-j-test.true w.new.claimed w.new.seen c.in_ok-m.m W
     c.minimum_at-minimum.result c.minimum_at-minimum.ensures c.melts_in.result (c.melts_in.ensures x.ids.now x.shares.now x.minima.now c.told-ids c.told-shares c.told-minima) c.if-melts_in.true
 
@@ -164,7 +166,7 @@ calm_split-loop-j-preserved t c =
     let told = c.lists_calm.ensures in
     let yes = c.if-not-lists_calm.false in
     let w = c.calm_node in
-    let W = subst (λ (r : Option ℕ). Reads (again (tile (get_or xs c.loop-j.j 0)) (look c.loop-j.claimed (take c.loop-j.m c.loop-j.seen))) c.loop-j.claimed c.loop-j.m w.new.claimed w.new.seen r) c.in_ok-m.was w.ensures in
+    let W = subst (λ (r : Result ℕ ℕ). Reads (again (tile (get_or xs c.loop-j.j 0)) (look c.loop-j.claimed (take c.loop-j.m c.loop-j.seen))) c.loop-j.claimed c.loop-j.m w.new.claimed w.new.seen r) c.in_ok-m.was w.ensures in
     kid-stays again ns a h xs ss ms few c.told-kids x.claimed.now x.seen.now x.n ok told yes c.loop-j.claimed c.loop-j.seen c.loop-j.m c.loop-j.j c.loop-j.invariant c.loop-j-test.true w.new.claimed w.new.seen c.in_ok-m.m W
     c.minimum_at-minimum.result c.minimum_at-minimum.ensures c.melts_in.result (c.melts_in.ensures x.ids.now x.shares.now x.minima.now c.told-ids c.told-shares c.told-minima) c.if-melts_in.false
 
