@@ -1,5 +1,6 @@
 -- What the columns hold: an arena's slots as arrays of numbers, and the list of actions. Definitions only.
-use Rattle.std.specs.Prelude.{◌≡◌, Bool, List, [], ◌∷◌, map, ℕ, zero, suc, ◌+◌, ◌≤◌, length, get_or, take, Float}
+use Rattle.std.specs.Prelude.{◌≡◌, Bool, ◌&&◌, List, [], ◌∷◌, map, ℕ, zero, suc, ◌+◌, ◌≤◌, eqb, length, get_or, take, Float}
+use Rattle.rules.specs.Lists.{any_of}
 use Rattle.rules.specs.Tree.{Node, empty, pane, tabs, split, tile}
 use Rattle.rules.specs.Repair.{action_code, action_tile, action_pane, added_if}
 use Rattle.rules.specs.declared.model.Axis.{Axis}
@@ -47,6 +48,12 @@ Slim h = (get_or h 4 0 ≤ 16) × (get_or h 5 0 ≤ 16) × (get_or h 6 0 ≤ 16)
 
 abbrev pub code_of : RepairAction → List ℕ
 code_of a = action_code a ∷ (action_tile a).slot ∷ action_pane a ∷ []
+
+abbrev pub is_code : ℕ → ℕ → ℕ → List ℕ → Bool
+is_code what t p a = eqb what (get_or a 0 0) && eqb t (get_or a 1 0) && eqb p (get_or a 2 0)
+
+abbrev pub listed : ℕ → ℕ → ℕ → List (List ℕ) → Bool
+listed what t p acts = any_of (is_code what t p) acts
 
 -- the first n of the list are these actions, where it has its 1,300 places: a list of any other length is silent, so that any actions will do
 abbrev pub Lists : List (List ℕ) → ℕ → List RepairAction → Type 0

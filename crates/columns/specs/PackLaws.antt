@@ -22,10 +22,11 @@ use Rattle.rules.specs.declared.model.RepairAction.{RepairAction}
 use Rattle.rules.specs.declared.model.RepairAction.TheVariants.{RemovedInvalidNode, RepairedActiveTab, RepairedShares, RepairedConstraints, CollapsedSplit, RemovedDuplicatePane}
 use Rattle.forest.specs.Still.{none_lost}
 use Rattle.forest.specs.Sweep.{swept_by, actions_by}
+use Rattle.lists.specs.Tests.{Flagged, flagged-more}
 use Rattle.columns.specs.Columns.{bar_from, axis_from, node_by, node_from, nodes_from, code_of, Lists, Noted, Slim}
-use Rattle.columns.specs.Pack.{head_by, head_of, slot_of, ids_by, ids_of, shares_of, minima_of, swept_head, Sweeps, action_by, action_from, Unpacks, over_head, over_of, first_of, NoneLost, Puts}
-use Rattle.columns.specs.ColumnLaws.{nodes-long}
-use Rattle.columns.specs.OverLaws.{any-alike}
+use Rattle.columns.specs.Pack.{head_by, head_of, slot_of, ids_by, ids_of, shares_of, minima_of, swept_head, Sweeps, action_by, action_from, Unpacks, over_head, over_of, over_kind, first_of, NoneLost, Puts}
+use Rattle.columns.specs.ColumnLaws.{nodes-long, split-of}
+use Rattle.columns.specs.OverLaws.{over-split, any-alike}
 
 -- ---- a loop that fills an array from the front with the entries of another list
 
@@ -73,6 +74,15 @@ module _ {A B : Type 0} (f : A → B) where
 
     pub mapped-all : (l : List B) (i : ℕ) → Copied (map f s) i l → n ≤ i → l ≡ map f s
     mapped-all l i C le = copied_all (map f s) l i C (omega (arith, length-map s f))
+
+-- ---- a search that has not ended
+
+module _ {A : Type 0} (t : A → Bool) (xs : List A) (i : ℕ) (d : A) (h : i < length xs) where
+  pub not_yet : t (get_or xs i d) ≡ false → Flagged t xs i false → Flagged t xs (i + 1) false
+  not_yet e w = subst (λ (b : Bool). Flagged t xs (i + 1) b) e (flagged-more t xs i d false h w)
+
+  pub found : t (get_or xs i d) ≡ true → Flagged t xs i false → true ≡ any_of t xs
+  found e w = subst (λ (b : Bool). Flagged t xs (i + 1) b) e (flagged-more t xs i d false h w)
 
 -- ---- slots to columns
 
@@ -123,8 +133,36 @@ tiles-take zero xs = refl
 tiles-take (suc n) [] = refl
 tiles-take (suc n) (x ∷ xs) = ap (λ (l : List TileId). tile x ∷ l) (tiles-take n xs)
 
+-- the slot that is made shows its row, and has a list too long where the row has
 module _ (s : Slot) (h xs : List ℕ) (ss ms : List Float) where
-  -- a split, from what its fields are
+  abbrev pub Made : Type 0
+  Made = (view_slot s ≡ node_from h xs ss ms) × (over_slot s ≡ over_of h)
+
+  made_by : (k : ℕ) (x : Kind) → get_or h 0 0 ≡ k → s.kind ≡ x → node_of x s ≡ node_by k h xs ss ms → over_by x s ≡ over_kind k h → Made
+  made_by k x e i v o =
+      (ap (λ (y : Kind). node_of y s) i ∙ v ∙ ap (λ (n : ℕ). node_by n h xs ss ms) (sym e), ap (λ (y : Kind). over_by y s) i ∙ o ∙ ap (λ (n : ℕ). over_kind n h) (sym e))
+
+  pub made-empty : get_or h 0 0 ≡ 0 → s.kind ≡ Empty → Made
+  made-empty e i = made_by 0 Empty e i refl refl
+
+  pub made-pane : get_or h 0 0 ≡ 1 → s.kind ≡ Pane (get_or h 2 0) → Made
+  made-pane e i = made_by 1 (Pane (get_or h 2 0)) e i refl refl
+
+  pub made-group : get_or h 0 0 ≡ 2 → (view_slot s ≡ Node.tabs (bar_from (get_or h 1 0)) (get_or h 3 0) (take (get_or h 4 0) xs)) × (over_slot s ≡ ltb 16 (get_or h 4 0)) → Made
+  made-group e g = (g.0 ∙ ap (λ (n : ℕ). node_by n h xs ss ms) (sym e), g.1 ∙ ap (λ (n : ℕ). over_kind n h) (sym e))
+
+  pub made-split : (get_or h 0 0 ≡ 0 → ⊥) → (get_or h 0 0 ≡ 1 → ⊥) → (get_or h 0 0 ≡ 2 → ⊥)
+      → (view_slot s ≡ Node.split (axis_from (get_or h 1 0)) (map tile (take (get_or h 4 0) xs)) (take (get_or h 5 0) ss) (take (get_or h 6 0) ms)) × (over_slot s ≡ over_head h) → Made
+  made-split z o t g = (g.0 ∙ sym (split-of (get_or h 0 0) h xs ss ms z o t), g.1 ∙ sym (over-split (get_or h 0 0) h z o t))
+
+  -- a group and a split, from what their fields are
+  pub group-made : (b : TabBarPlacement) → s.kind ≡ Tabs b → b ≡ bar_from (get_or h 1 0) → s.active ≡ get_or h 3 0 → s.panes.at ≡ xs → s.panes.len ≡ get_or h 4 0
+      → (view_slot s ≡ Node.tabs (bar_from (get_or h 1 0)) (get_or h 3 0) (take (get_or h 4 0) xs)) × (over_slot s ≡ ltb 16 (get_or h 4 0))
+  group-made b i e a x n = (
+    ap (λ (y : Kind). node_of y s) i ∙ (λ z. Node.tabs (e z) (a z) (take (n z) (x z))),
+    ap (λ (y : Kind). over_by y s) i ∙ ap (ltb 16) n,
+  )
+
   pub split-made : (a : Axis) → s.kind ≡ Split a → a ≡ axis_from (get_or h 1 0) → s.children.at ≡ map tile xs → s.children.len ≡ get_or h 4 0
       → s.shares.at ≡ ss → s.shares.len ≡ get_or h 5 0 → s.minima.at ≡ ms → s.minima.len ≡ get_or h 6 0
       → (view_slot s ≡ Node.split (axis_from (get_or h 1 0)) (map tile (take (get_or h 4 0) xs)) (take (get_or h 5 0) ss) (take (get_or h 6 0) ms)) × (over_slot s ≡ over_head h)
@@ -274,11 +312,11 @@ module _ (hs₀ : List (List ℕ)) (cs : List Bool) (acts₀ : List (List ℕ)) 
         }
 
     -- one slot further: `lost` says whether it is listed, `next` is its head after it
-    sweeping_step : (hs acts : List (List ℕ)) (m i : ℕ) → Sweeping hs acts m i → i < 64
+    pub sweeping-more : (hs acts : List (List ℕ)) (m i : ℕ) → Sweeping hs acts m i → i < 64
         → (lost : Bool) → lost ≡ not (get_or cs i false || eqb (get_or (get_or hs i []) 0 0) 0)
         → (acts' : List (List ℕ)) (m' : ℕ) → Noted lost (RemovedInvalidNode (tile i)) acts m acts' m'
         → (next : List ℕ) → next ≡ swept_head (get_or cs i false) (get_or hs i []) → Sweeping (set hs i next) acts' m' (i + 1)
-    sweeping_step hs acts m i S lt lost el acts' m' N next en =
+    sweeping-more hs acts m i S lt lost el acts' m' N next en =
         let same : get_or hs i [] ≡ get_or hs₀ i [] = sym (at_drop hs i []) ∙ ap (λ (l : List (List ℕ)). get_or l 0 []) S.left ∙ at_drop hs₀ i [] in
         let b : Bool = get_or cs i false || eqb (get_or (get_or hs₀ i []) 0 0) 0 in
         let eb : lost ≡ not b = el ∙ ap (λ (h : List ℕ). not (get_or cs i false || eqb (get_or h 0 0) 0)) same in
@@ -305,14 +343,14 @@ module _ (hs₀ : List (List ℕ)) (cs : List Bool) (acts₀ : List (List ℕ)) 
     pub sweeping-kept : (hs acts : List (List ℕ)) (m i : ℕ) → Sweeping hs acts m i → i < 64 → get_or cs i false ≡ true → Sweeping hs acts m (i + 1)
     sweeping-kept hs acts m i S lt e =
         subst (λ (gs : List (List ℕ)). Sweeping gs acts m (i + 1)) (set-get_or hs i [])
-        (sweeping_step hs acts m i S lt false (ap (λ (b : Bool). not (b || eqb (get_or (get_or hs i []) 0 0) 0)) (sym e)) acts m (record { most = omega arith; lists = λ l L. L })
+        (sweeping-more hs acts m i S lt false (ap (λ (b : Bool). not (b || eqb (get_or (get_or hs i []) 0 0) 0)) (sym e)) acts m (record { most = omega arith; lists = λ l L. L })
         (get_or hs i []) (ap (λ (b : Bool). swept_head b (get_or hs i [])) (sym e)))
 
     pub sweeping-emptied : (hs acts : List (List ℕ)) (m i : ℕ) → Sweeping hs acts m i → i < 64 → get_or cs i false ≡ false
         → (acts' : List (List ℕ)) (m' : ℕ) → Noted (not (eqb (get_or (get_or hs i []) 0 0) 0)) (RemovedInvalidNode (tile i)) acts m acts' m'
         → Sweeping (set hs i (swept_head false [])) acts' m' (i + 1)
     sweeping-emptied hs acts m i S lt e acts' m' N =
-        sweeping_step hs acts m i S lt (not (eqb (get_or (get_or hs i []) 0 0) 0)) (ap (λ (b : Bool). not (b || eqb (get_or (get_or hs i []) 0 0) 0)) (sym e)) acts' m' N
+        sweeping-more hs acts m i S lt (not (eqb (get_or (get_or hs i []) 0 0) 0)) (ap (λ (b : Bool). not (b || eqb (get_or (get_or hs i []) 0 0) 0)) (sym e)) acts' m' N
         (swept_head false []) (ap (λ (b : Bool). swept_head b (get_or hs i [])) (sym e))
 
     pub sweeping-all : (hs acts : List (List ℕ)) (m i : ℕ) → Sweeping hs acts m i → 64 ≤ i → Sweeps hs₀ cs acts₀ n hs acts m
