@@ -22,9 +22,9 @@ pub fn split_noted(acts: &mut [[u64; 3]], n: usize, id: u64, k: Kids, l: Kids) -
     let tile = TileId { slot: id };
     let compact = constraints::compact_constraints(l.minima);
     let fine = util_shares::eq_reals(compact, k.minima);
-    let m = actions::note_if(acts, n, !fine, RepairAction::RepairedConstraints(tile));
+    let m = actions::note_action_if(acts, n, !fine, RepairAction::RepairedConstraints(tile));
     let same = util_shares::eq_reals(l.shares, k.shares);
-    actions::note_if(acts, m, !same, RepairAction::RepairedShares(tile))
+    actions::note_action_if(acts, m, !same, RepairAction::RepairedShares(tile))
 }
 
 // A child that is kept: melted in, or placed as it is; none, where there is no room.
@@ -54,7 +54,7 @@ fn place_at(
         let given = rows::load(heads, ids, shares, minima, i);
         let tally = rows::melt_kids(cs, ss, ms, t, share, given)?;
         let melted = RepairAction::CollapsedSplit(TileId { slot: id });
-        let n = actions::note(acts, c.acts, melted);
+        let n = actions::note_action(acts, c.acts, melted);
         heads[i] = [0; 8];
         return Some(Placing {
             tally,
@@ -161,7 +161,7 @@ fn keep_split(
     let repaired = util_shares::repaired_shares(n, given);
     let same = util_shares::eq_reals(repaired, old);
     let mended = RepairAction::RepairedShares(TileId { slot: id });
-    let listed = actions::note_if(acts, c.acts, t.moved | !same, mended);
+    let listed = actions::note_action_if(acts, c.acts, t.moved | !same, mended);
     let whole = Reals { at: *ms, len: n };
     let compact = constraints::compact_constraints(whole);
     store(
@@ -197,7 +197,7 @@ pub fn split_done(
 {
     let tile = TileId { slot: id };
     if t.len == 0 {
-        let n = actions::note(acts, c.acts, RepairAction::RemovedInvalidNode(tile));
+        let n = actions::note_action(acts, c.acts, RepairAction::RemovedInvalidNode(tile));
         clear(heads, id);
         return Walk {
             kept: Kept::Gone,
@@ -206,7 +206,7 @@ pub fn split_done(
     }
     if t.len == 1 {
         let first = cs[0];
-        let n = actions::note(acts, c.acts, RepairAction::CollapsedSplit(tile));
+        let n = actions::note_action(acts, c.acts, RepairAction::CollapsedSplit(tile));
         clear(heads, id);
         return Walk {
             kept: Kept::At(first),

@@ -23,7 +23,7 @@ pub fn sweep(
             continue;
         }
         let lost = RepairAction::RemovedInvalidNode(TileId { slot: i as u64 });
-        m = actions::note_if(acts, m, heads[i][0] != 0, lost);
+        m = actions::note_action_if(acts, m, heads[i][0] != 0, lost);
         heads[i] = [0; 8];
     }
     m

@@ -12,7 +12,7 @@ pub fn gone(acts: &mut [[u64; 3]], c: Counts, id: u64) -> Walk
     ensures { Dropped id acts.old c acts.new result.kept result.counts }
 {
     let invalid = RepairAction::RemovedInvalidNode(TileId { slot: id });
-    let n = actions::note(acts, c.acts, invalid);
+    let n = actions::note_action(acts, c.acts, invalid);
     Walk {
         kept: Kept::Gone,
         counts: Counts { acts: n, ..c },
@@ -37,7 +37,7 @@ pub fn pane_step(
     let pane = heads[slot][2];
     if panes::saw(seen, c.seen, pane) {
         let tile = TileId { slot: id };
-        let n = actions::note(
+        let n = actions::note_action(
             acts,
             c.acts,
             RepairAction::RemovedDuplicatePane { pane, tile },
@@ -82,7 +82,7 @@ pub fn group_step(
     let d = s.counts;
     let tile = TileId { slot: id };
     if kept.len == 0 {
-        let n = actions::note(acts, d.acts, RepairAction::RemovedInvalidNode(tile));
+        let n = actions::note_action(acts, d.acts, RepairAction::RemovedInvalidNode(tile));
         heads[i] = [0; 8];
         return Walk {
             kept: Kept::Gone,
@@ -90,7 +90,7 @@ pub fn group_step(
         };
     }
     let active = panes::active_of(old, h[3] as usize, kept) as u64;
-    let n = actions::note_if(
+    let n = actions::note_action_if(
         acts,
         d.acts,
         h[3] != active,

@@ -44,7 +44,7 @@ fn keep_pane(seen: &mut [u64; 1024], acts: &mut [[u64; 3]], s: Sift, id: u64, pa
     let c = s.counts;
     if saw(seen, c.seen, pane) {
         let tile = TileId { slot: id };
-        let n = actions::note(
+        let n = actions::note_action(
             acts,
             c.acts,
             RepairAction::RemovedDuplicatePane { pane, tile },

@@ -13,4 +13,4 @@ returns c =
     λ cs seen Z room.
     closed-more (cols a.heads.now a.ids.now a.shares.now a.minima.now cs seen a.acts.now a.c) Z room a.id a.mode a.old (kids_in a.cs.now a.ss.now a.ms.now a.t.len a.t.moved) L.even L.long c.requires.many
     c.repaired_shares-repaired.result c.compact_constraints-compact.result c.repaired_shares-repaired.ensures c.compact_constraints-compact.ensures _
-    (ap (λ (b : Bool). a.t.moved || not b) c.eq_reals-same.ensures) _ _ _ _ c.store.ensures _ c.note_if-listed.result c.note_if-listed.ensures
+    (ap (λ (b : Bool). a.t.moved || not b) c.eq_reals-same.ensures) _ _ _ _ c.store.ensures _ c.note_action_if-listed.result c.note_action_if-listed.ensures

@@ -32,7 +32,7 @@ returns-then-is_meltable c =
       λ cs seen e ps pm Z room.
           placed-melted (cols a.heads.now a.ids.now a.shares.now a.minima.now cs seen a.acts.now a.c) Z a.mode e (kids_in a.cs.now a.ss.now a.ms.now a.t.len a.t.moved) a.share a.minimum ps pm a.id
           c.load-given.result c.load-given.ensures (kids_in m.cs m.ss m.ms u.len u.moved) false F
-          (sym (c.is_meltable.ensures _ _ _) ∙ c.if-is_meltable.true) refl room _ c.note-n.result c.note-n.ensures,
+          (sym (c.is_meltable.ensures _ _ _) ∙ c.if-is_meltable.true) refl room _ c.note_action-n.result c.note_action-n.ensures,
     )
 
 pub returns-in_err-tally-2 : goal.returns-in_err-tally-2

@@ -7,9 +7,9 @@ use Rattle.rules.specs.Tree.{reals}
 use Rattle.melting.proofs.SplitLaws.{bad-noted}
 use Rattle.keeping.proofs.splits.split_noted.Goals as goal
 
-pub note_if-requires : goal.note_if-requires
-note_if-requires c =
-    omega (arith, c.note_if-m.ensures.most, c.requires.listing)
+pub note_action_if-requires : goal.note_action_if-requires
+note_action_if-requires c =
+    omega (arith, c.note_action_if-m.ensures.most, c.requires.listing)
 
 pub returns : goal.returns
 returns c =
@@ -18,5 +18,5 @@ returns c =
     bad-noted c.args.id k l _ _ _ _ _ _ _ _
     (ap not (c.eq_reals-fine.ensures ∙ (λ i. eq_reals (c.compact_constraints-compact.ensures.list i) (reals k.minima))))
     (ap not c.eq_reals-same.ensures)
-    c.note_if-m.ensures
-    c.note_if.ensures
+    c.note_action_if-m.ensures
+    c.note_action_if.ensures

@@ -15,8 +15,8 @@ retain-s-requires c =
     let m : a.c.acts + 16 ≤ 1300 = omega (arith, o.1) in
     record { few = c.requires.few; sights = s; listing = m }
 
-pub note-n-requires : goal.note-n-requires
-note-n-requires c =
+pub note_action-n-requires : goal.note_action-n-requires
+note_action-n-requires c =
     let a = c.args in
     let o = open-room a.heads.now a.claimed.now a.c a.id c.requires.slot in
     let f = retains-few _ _ _ _ _ _ _ _ _ _ c.retain-s.ensures c.requires.few in
@@ -28,16 +28,16 @@ returns-then-kept-eq0 c ss ms S =
     let a = c.args in
     group-none a.heads.now a.ids.now ss ms a.claimed.now a.seen.now a.acts.now a.c a.id S c.requires.slot c.requires.group
     _ _ c.retain-s.result.list c.retain-s.result.counts c.retain-s.ensures
-    (replicate 8 0) _ c.note-n.result refl (omega arith, omega arith, omega arith) c.if-kept-eq0.true
-    c.note-n.ensures
+    (replicate 8 0) _ c.note_action-n.result refl (omega arith, omega arith, omega arith) c.if-kept-eq0.true
+    c.note_action-n.ensures
 
 pub active_of-active-requires : goal.active_of-active-requires
 active_of-active-requires c =
     let f = retains-few _ _ _ _ _ _ _ _ _ _ c.retain-s.ensures c.requires.few in
     record { few = c.requires.few; fewer = f.0 }
 
-pub note_if-n-requires : goal.note_if-n-requires
-note_if-n-requires c =
+pub note_action_if-n-requires : goal.note_action_if-n-requires
+note_action_if-n-requires c =
     let a = c.args in
     let o = open-room a.heads.now a.claimed.now a.c a.id c.requires.slot in
     let f = retains-few _ _ _ _ _ _ _ _ _ _ c.retain-s.ensures c.requires.few in
@@ -51,6 +51,6 @@ returns c ss ms S =
     let l = c.retain-s.result.list in
     group-some a.heads.now a.ids.now ss ms a.claimed.now a.seen.now a.acts.now a.c a.id S c.requires.slot c.requires.group
     _ _ l c.retain-s.result.counts c.retain-s.ensures
-    (2 ∷ get_or (get_or a.heads.now a.id []) 1 0 ∷ 0 ∷ c.active_of-active.result ∷ l.len ∷ 0 ∷ 0 ∷ 0 ∷ []) _ c.note_if-n.result
+    (2 ∷ get_or (get_or a.heads.now a.id []) 1 0 ∷ 0 ∷ c.active_of-active.result ∷ l.len ∷ 0 ∷ 0 ∷ 0 ∷ []) _ c.note_action_if-n.result
     refl refl c.active_of-active.ensures refl (f.0, omega arith, omega arith) c.if-kept-eq0.false
-    c.note_if-n.ensures
+    c.note_action_if-n.ensures

@@ -12,8 +12,8 @@ returns-then-saw c xs ss ms S =
     let a = c.args in
     let p = get_or (get_or a.heads.now a.id []) 2 0 in
     pane-again a.heads.now xs ss ms a.claimed.now a.seen.now a.acts.now a.c a.id S c.requires.slot p c.requires.pane refl
-    (replicate 8 0) _ c.note-n.result refl (omega arith, omega arith, omega arith) (sym c.saw.ensures ∙ c.if-saw.true)
-    c.note-n.ensures
+    (replicate 8 0) _ c.note_action-n.result refl (omega arith, omega arith, omega arith) (sym c.saw.ensures ∙ c.if-saw.true)
+    c.note_action-n.ensures
 
 pub see-n-requires : goal.see-n-requires
 see-n-requires c =

@@ -6,8 +6,8 @@ use Rattle.sifting.proofs.panes.keep_pane.Goals as goal
 pub returns-then-saw : goal.returns-then-saw
 returns-then-saw c =
     let a = c.args in
-    sifts-again a.id a.pane a.seen.now a.acts.now a.s _ c.note-n.result (sym c.saw.ensures ∙ c.if-saw.true)
-    c.note-n.ensures
+    sifts-again a.id a.pane a.seen.now a.acts.now a.s _ c.note_action-n.result (sym c.saw.ensures ∙ c.if-saw.true)
+    c.note_action-n.ensures
 
 pub returns : goal.returns
 returns c =
