@@ -9,8 +9,8 @@ use lib.Ieee.{Float, nan, inf, fin, binary64, add, lt, le}
 use Rattle.rules.specs.Numbers.{zero-f, plus, minimum_ok, share_ok}
 use Rattle.rules.specs.Lists.{all_of}
 use Rattle.rules.specs.Solver.{sum_of}
-use Rattle.std.specs.Prelude.{Some, None}
-use Rattle.loops.specs.Given.{Reads}
+use Rattle.std.specs.Prelude.{Ok, Err}
+use Rattle.loops.specs.Given.{SumsOf, Reads}
 use Rattle.loops.proofs.Loops.{sum-map, Summed, summed-step, summed-end, Kept, kept_step, kept-end}
 use Rattle.loops.proofs.Filling.{Filled, filled-start, filled-step, filled-end, map_more}
 
@@ -93,19 +93,17 @@ module _ (n : ℕ) (ss ms ls₀ : List Float) where
     reading-plain : n ≤ i → take n ls ≡ map plus (take n ms)
     reading-plain h = filled-end (λ (j : ℕ). map plus (take j ms)) ls₀ ls n i h r.few r.plain
 
-    pub reading-good : n ≤ i → (sa && sb && (ma && mb)) ≡ true → Reads n ss ms ls (Some (record { shares = sum; minima = least }))
-    reading-good h good =
+    reading-sums : n ≤ i → SumsOf n ss ls (record { shares = sum; minima = least })
+    reading-sums h =
         let k : n ≤ length ss = omega arith in
         let g : n ≤ length ms = omega arith in
         record {
-          fine = sym good ∙ reading-tests h;
-          sums = record {
-            shares = summed-end (λ (x : Float). true) (λ (x : Float). x) zero-f ss n i sum h r.few k r.shares;
-            minima = summed-end (λ (x : Float). true) plus zero-f ms n i least h r.few g r.minima ∙ sum-map (λ (x : Float). true) (λ (x : Float). x) plus zero-f (take n ms) ∙ ap sum_of (sym (reading-plain h));
-          };
-          plain = reading-plain h;
-          long = r.plain.long ∙ o;
+          shares = summed-end (λ (x : Float). true) (λ (x : Float). x) zero-f ss n i sum h r.few k r.shares;
+          minima = summed-end (λ (x : Float). true) plus zero-f ms n i least h r.few g r.minima ∙ sum-map (λ (x : Float). true) (λ (x : Float). x) plus zero-f (take n ms) ∙ ap sum_of (sym (reading-plain h));
         }
 
-    pub reading-bad : n ≤ i → (sa && sb && (ma && mb)) ≡ false → Reads n ss ms ls None
-    reading-bad h bad = record { fine = sym bad ∙ reading-tests h; sums = tt; plain = reading-plain h; long = r.plain.long ∙ o }
+    pub reading-good : n ≤ i → (sa && sb && (ma && mb)) ≡ true → Reads n ss ms ls (Ok (record { shares = sum; minima = least }))
+    reading-good h good = record { fine = sym good ∙ reading-tests h; sums = reading-sums h; plain = reading-plain h; long = r.plain.long ∙ o }
+
+    pub reading-bad : n ≤ i → (sa && sb && (ma && mb)) ≡ false → Reads n ss ms ls (Err (record { shares = sum; minima = least }))
+    reading-bad h bad = record { fine = sym bad ∙ reading-tests h; sums = reading-sums h; plain = reading-plain h; long = r.plain.long ∙ o }

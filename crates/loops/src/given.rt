@@ -10,14 +10,15 @@ pub struct Sums {
     pub minima: f64,
 }
 
-// The sums, where every share and minimum is good. A refused input is read to its end too: nothing waits for the tests. Each comparison has a
-// flag of its own, since the compiler makes a dozen instructions of `number::share_ok` in a loop, and three of a comparison.
+// The sums: `Ok` where every share and minimum is good, and `Err` where one is not. A refused input is read to its end too: nothing waits for
+// the tests. Each comparison has a flag of its own, since the compiler makes a dozen instructions of `number::share_ok` in a loop, and three of
+// a comparison.
 pub fn read_all(
     shares: &[f64; 16],
     minima: &[f64; 16],
     least: &mut [f64; 16],
     n: usize,
-) -> Option<Sums>
+) -> Result<Sums, Sums>
     requires { n ≤ 16 }
     ensures { Reads n shares.now minima.now least.new result }
 {
@@ -39,12 +40,13 @@ pub fn read_all(
         share_sum += share;
         min_total += plain;
     }
+    let sums = Sums {
+        shares: share_sum,
+        minima: min_total,
+    };
     if share_above & share_below & (minimum_above & minimum_below) {
-        Some(Sums {
-            shares: share_sum,
-            minima: min_total,
-        })
+        Ok(sums)
     } else {
-        None
+        Err(sums)
     }
 }

@@ -29,8 +29,7 @@ use Rattle.solver.specs.Call.{Clear, reals_of, counts_ok, bad_into, SolvesInto}
 use Rattle.loops.specs.Padded.{Padded}
 use Rattle.loops.specs.Given.{Reads}
 use Rattle.loops.specs.declared.given.Sums.{Sums}
-use Rattle.std.specs.Prelude.{Option}
-use Rattle.std.specs.Option.{is_some}
+use Rattle.std.specs.Prelude.{Result, is_ok}
 use Rattle.loops.specs.Columns.{kids_shown, unfixed, Long}
 use borrow.Author.Tests.{not-true, not-false}
 use Rattle.loops.proofs.Work.{sizes-taken, start-shown}
@@ -209,17 +208,17 @@ module _ (total : Float) (shares minima : Reals) where
       go false S = shown (solve_by false total (reals shares) (reals minima)) S (S.refused BadInput refl)
 
 -- the call on lent lists, by what their reading came to
-module _ (total : Float) (ss ms least : List Float) (n m : ℕ) (b : Bool) (is : b ≡ counts_ok n m total) (good : not b ≡ false) (g : Option Sums) (R : Reads n ss ms least g) where
+module _ (total : Float) (ss ms least : List Float) (n m : ℕ) (b : Bool) (is : b ≡ counts_ok n m total) (good : not b ≡ false) (g : Result Sums Sums) (R : Reads n ss ms least g) where
   same : m ≡ n
   same = (counts-few n m total b is good).1
 
-  tested : solver_ok n m total (take n ss) (take m ms) ≡ is_some g
-  tested = ok-lists n m total (take n ss) (take m ms) b is good (is_some g) (R.fine ∙ (λ i. all_of share_ok (take n ss) && all_of minimum_ok (take (sym same i) ms)))
+  tested : solver_ok n m total (take n ss) (take m ms) ≡ is_ok g
+  tested = ok-lists n m total (take n ss) (take m ms) b is good (is_ok g) (R.fine ∙ (λ i. all_of share_ok (take n ss) && all_of minimum_ok (take (sym same i) ms)))
 
-  pub read-refused : is_some g ≡ false → (d : SolvedInto) → d ≡ bad_into → (xs : List Float) → SolvesInto (Rules.solve total (reals_of ss n) (reals_of ms m)) xs xs d
+  pub read-refused : is_ok g ≡ false → (d : SolvedInto) → d ≡ bad_into → (xs : List Float) → SolvesInto (Rules.solve total (reals_of ss n) (reals_of ms m)) xs xs d
   read-refused e = into-refused total (reals_of ss n) (reals_of ms m) (tested ∙ e)
 
-  pub read-accepted : is_some g ≡ true → (t : Float) → t ≡ plus total → (xs xs' : List Float) (p : ℕ) → Shows (solve_lengths_with_min t (take n ss) (take n least)) n xs' p
+  pub read-accepted : is_ok g ≡ true → (t : Float) → t ≡ plus total → (xs xs' : List Float) (p : ℕ) → Shows (solve_lengths_with_min t (take n ss) (take n least)) n xs' p
       → SolvesInto (Rules.solve total (reals_of ss n) (reals_of ms m)) xs xs' (record { answer = Accepted; len = n; passes = p })
   read-accepted e t is-t xs xs' p S =
       into-accepted total (reals_of ss n) (reals_of ms m) (tested ∙ e) n (counts-few n m total b is good).0 xs xs' p

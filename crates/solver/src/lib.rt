@@ -132,7 +132,7 @@ pub fn solve_into(
     }
     let n = share_count;
     let mut least = [0.0; 16];
-    let Some(sums) = given::read_all(shares, minima, &mut least, n) else {
+    let Ok(sums) = given::read_all(shares, minima, &mut least, n) else {
         return refused();
     };
     let kids = Wants {
