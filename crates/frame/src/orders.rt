@@ -7,7 +7,6 @@ ghost use Rattle.items.specs.Lists.{Sorted};
 use crate::sorting::sorted;
 use crate::{FocusOrder, PaintOrder};
 use items::decode;
-use rules::frame::FrameItemId;
 use streaming::stream::Entry;
 
 // LayoutFrame::focus_order
@@ -26,5 +25,6 @@ pub fn paint_order(items: &[[u64; 5]; 2304], rects: &[[f64; 4]; 2304], n: usize)
     requires { n ≤ 2304 }
     ensures { Sorted 1216 (gather paint_of (items_from (take n items.now) (take n rects.now))) result.at result.len }
 {
-    sorted(items, rects, n, FrameItemId::Pane(0), decode::painted_of)
+    let none = decode::painted_of([0u64; 5]).item;
+    sorted(items, rects, n, none, decode::painted_in)
 }

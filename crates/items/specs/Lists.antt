@@ -1,11 +1,13 @@
 -- The lists of a frame by value: an entry of the stream as an entry of a list, and a list that fills its places. Definitions only.
-use Rattle.std.specs.Prelude.{◌≡◌, Bool, true, false, Option, Some, None, List, [], ◌∷◌, ℕ, ◌+◌, ◌≤◌, ltb, length, get_or, set, take, Float}
+use Rattle.std.specs.Prelude.{◌≡◌, Bool, true, false, Option, Some, None, List, [], ◌∷◌, ℕ, zero, suc, ◌+◌, ◌≤◌, ltb, length, get_or, set, take, Float}
 use Rattle.rules.specs.Tree.{tile}
 use Rattle.rules.specs.declared.frame.PaneFrame.{PaneFrame}
 use Rattle.rules.specs.declared.frame.TabBarFrame.{TabBarFrame}
 use Rattle.rules.specs.declared.frame.TabFrame.{TabFrame}
 use Rattle.rules.specs.declared.frame.SplitChildFrame.{SplitChildFrame}
 use Rattle.rules.specs.declared.frame.SplitHandleFrame.{SplitHandleFrame}
+use Rattle.rules.specs.declared.frame.FrameItemId.{FrameItemId}
+use Rattle.rules.specs.declared.frame.FrameItemId.TheVariants.{Pane, TabBar, Tab, SplitHandle}
 use Rattle.columns.specs.Columns.{bar_from, axis_from}
 use Rattle.streaming.specs.Stream.{rect_from, flag_from}
 
@@ -25,6 +27,25 @@ child_from c q = record { split = tile (get_or c 1 0); child = tile (get_or c 2 
 
 abbrev pub handle_from : List ℕ → List Float → SplitHandleFrame
 handle_from c q = record { split = tile (get_or c 1 0); handle = get_or c 3 0; axis = axis_from (get_or c 4 0); rect = rect_from q }
+
+-- neither a pane of the focus order (0) nor a split's child (4) is painted
+abbrev pub painted : ℕ → Bool
+painted zero = false
+painted (suc zero) = true
+painted (suc (suc zero)) = true
+painted (suc (suc (suc zero))) = true
+painted (suc (suc (suc (suc zero)))) = false
+painted (suc (suc (suc (suc (suc n))))) = true
+
+abbrev pub painted_by : ℕ → List ℕ → FrameItemId
+painted_by zero c = SplitHandle (tile (get_or c 1 0)) (get_or c 3 0)
+painted_by (suc zero) c = Pane (get_or c 2 0)
+painted_by (suc (suc zero)) c = TabBar (tile (get_or c 1 0))
+painted_by (suc (suc (suc zero))) c = Tab (tile (get_or c 1 0)) (get_or c 2 0)
+painted_by (suc (suc (suc (suc n)))) c = SplitHandle (tile (get_or c 1 0)) (get_or c 3 0)
+
+abbrev pub painted_from : List ℕ → FrameItemId
+painted_from c = painted_by (get_or c 0 0) c
 
 -- ---- what a list takes of an entry: one element or none
 

@@ -1,15 +1,33 @@
 // A row of the stream, read as an entry of a list.
-ghost use Rattle.std.specs.Prelude.{◌≡◌};
+ghost use Rattle.std.specs.Prelude.{◌≡◌, ◌&&◌, ltb};
 ghost use Rattle.rules.specs.Frame.{paint_of};
 ghost use Rattle.streaming.specs.Stream as Streams;
 ghost use Rattle.items.specs.Lists as Lists;
 
+use crate::Painted;
 use rules::frame::{
     FrameItemId, PaneFrame, Rect, SplitChildFrame, SplitHandleFrame, TabBarFrame, TabFrame,
 };
 use rules::model::TileId;
 use streaming::stream;
 use streaming::stream::Entry;
+
+// Whether an entry is wanted and there is room for it.
+pub fn takes(wanted: bool, len: usize, most: usize) -> bool
+    ensures { result ≡ (wanted && ltb len most) }
+{
+    wanted && len < most
+}
+
+// Whether an entry of a kind is painted: the focus order and a split's children are not.
+pub fn is_painted(kind: u64) -> bool
+    ensures { result ≡ Lists.painted kind }
+{
+    if kind == stream::FOCUS {
+        return false;
+    }
+    kind != stream::SPLIT_CHILD
+}
 
 pub fn rect_of(q: [f64; 4]) -> Rect
     ensures { result ≡ Streams.rect_from q }
@@ -92,8 +110,28 @@ pub fn entry_of(row: [u64; 5], q: [f64; 4]) -> Entry
     }
 }
 
-// What the paint order names: each entry but a pane of the focus order and a split's child.
-pub fn painted_of(e: Entry) -> Option<FrameItemId>
+// What the paint order names in a row of a kind that is painted. Any row has an answer: what is no pane, tab bar or tab is read as a handle.
+pub fn painted_of(row: [u64; 5]) -> Painted
+    ensures { result.item ≡ Lists.painted_from row }
+{
+    let tile = TileId { slot: row[1] };
+    let item = match row[0] {
+        stream::PANE => FrameItemId::Pane(row[2]),
+        stream::TAB_BAR => FrameItemId::TabBar(tile),
+        stream::TAB => FrameItemId::Tab {
+            group: tile,
+            pane: row[2],
+        },
+        _ => FrameItemId::SplitHandle {
+            split: tile,
+            handle: row[3] as usize,
+        },
+    };
+    Painted { item }
+}
+
+// What the paint order names of an entry that was read: nothing of a pane of the focus order, nor of a split's child.
+pub fn painted_in(e: Entry) -> Option<FrameItemId>
     ensures { Lists.taken result ≡ paint_of (Streams.item_of e) }
 {
     match e {
