@@ -53,12 +53,12 @@ pub fn axis(n: u64) -> Axis
 }
 
 impl<'a> Reader<'a> {
-    // A slot's kind and what that kind uses; of a kind past the table, nothing.
-    fn slot(&mut self) -> Slot
+    // What stands in a slot of this kind: what that kind uses is read; past the table, nothing.
+    pub fn slot_of(&mut self, kind: u64) -> Slot
         ensures { length self.new.rest.now ≤ length self.old.rest.now }
     {
         let mut slot = EMPTY;
-        match self.number() {
+        match kind {
             1 => slot.kind = Kind::Pane(self.number()),
             2 => {
                 slot.kind = Kind::Tabs(bar(self.number()));
@@ -76,6 +76,15 @@ impl<'a> Reader<'a> {
         slot
     }
 
+    // A slot with its number, which stands first; then its kind, and what that kind uses.
+    pub fn slot_in(&mut self) -> (u64, Slot)
+        ensures { length self.new.rest.now ≤ length self.old.rest.now }
+    {
+        let which = self.number();
+        let kind = self.number();
+        (which, self.slot_of(kind))
+    }
+
     // Only the slots that differ are named; the others are as they were before. One past the arena is passed over.
     pub fn tree_after(&mut self, before: TileTree) -> TileTree
         ensures { length self.new.rest.now ≤ length self.old.rest.now }
@@ -84,8 +93,7 @@ impl<'a> Reader<'a> {
         let revision = self.number();
         let mut slots = before.slots;
         for _ in 0..self.number() {
-            let which = self.number();
-            let slot = self.slot();
+            let (which, slot) = self.slot_in();
             if which < 64 {
                 slots[which as usize] = slot;
             }
