@@ -20,6 +20,7 @@ walk t es due k = ok_from t.panes.count t.shares.count t.minima.count es due k.p
 
 -- i rows are passed: the walk from there on answers for the whole, and the sums are small
 pub record Going (bs : List ℕ) (t : Places) (i due : ℕ) (k : Taken) : Type 0 where
+  pub within : i ≤ t.rows.count
   pub rest : walk t (drop i (chunks_at bs t.rows)) due k ≡ ok_rows bs t
   pub due-few : due ≤ 65536 * i + 1
   pub panes-few : k.panes ≤ 65536 * i
@@ -27,7 +28,7 @@ pub record Going (bs : List ℕ) (t : Places) (i due : ℕ) (k : Taken) : Type 0
   pub minima-few : k.minima ≤ 65536 * i
 
 pub going_start : (bs : List ℕ) (t : Places) → Going bs t 0 1 taken_none
-going_start bs t = record { rest = refl; due-few = omega arith; panes-few = omega arith; shares-few = omega arith; minima-few = omega arith }
+going_start bs t = record { within = omega arith; rest = refl; due-few = omega arith; panes-few = omega arith; shares-few = omega arith; minima-few = omega arith }
 
 none-due : (o : Option Row) (more : ℕ → Row → Bool) → ok_by o 0 more ≡ false
 none-due none more = refl
@@ -61,6 +62,7 @@ module _ (bs : List ℕ) (t : Places) (i due : ℕ) (k : Taken) (w : Going bs t 
       let pos : 0 < due = pos_of_ne-zero ne in
       let d : due ≡ suc (due - 1) = omega arith in
       record {
+        within = omega arith;
         rest = ap (λ (j : ℕ). walk t (drop j es) (due - 1 + children_used (row_is x)) (taken_with k (row_is x))) (add-one i) ∙ (λ j. ok_by (r.is j) (sym d j) more) ∙ here;
         due-few = omega (arith, w.due-few, r.small.children);
         panes-few = omega (arith, w.panes-few, r.small.panes);
