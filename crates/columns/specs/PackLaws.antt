@@ -25,7 +25,7 @@ use Rattle.forest.specs.Sweep.{swept_by, actions_by}
 use Rattle.lists.specs.Tests.{Flagged, flagged-more}
 use Rattle.columns.specs.Columns.{bar_from, axis_from, node_by, node_from, nodes_from, code_of, Lists, Noted, Slim}
 use Rattle.columns.specs.Pack.{head_by, head_of, slot_of, ids_by, ids_of, shares_of, minima_of, swept_head, Sweeps, action_by, action_from, Unpacks, over_head, over_of, over_kind, first_of, NoneLost, Puts}
-use Rattle.columns.specs.ColumnLaws.{nodes-long, split-of}
+use Rattle.columns.specs.ColumnLaws.{nodes-long, nodes-at, split-of}
 use Rattle.columns.specs.OverLaws.{over-split, any-alike}
 
 -- ---- a loop that fills an array from the front with the entries of another list
@@ -203,6 +203,11 @@ module _ (hs xs : List (List ℕ)) (ss ms : List (List Float)) where
               subst (λ (l : List Bool). Copied (map over_of hs) (i + 1) l) (sym (map-set over_slot a i s))
               (mapped-more over_of hs 64 lh (map over_slot a) i [] false (over_slot s) P.over lt m.1);
         }
+
+    -- the same, of a slot that shows its row
+    pub packing-made : (i : ℕ) (a : List Slot) (s : Slot) → Packing i a → i < 64 → Made s (get_or hs i []) (get_or xs i []) (get_or ss i []) (get_or ms i [])
+        → Packing (i + 1) (set a i s)
+    packing-made i a s P lt m = packing-more i a s P lt (m.0 ∙ sym (nodes-at hs xs ss ms lh lx ls lm i), m.1)
 
     pub packing-all : (i : ℕ) (a : List Slot) → Packing i a → 64 ≤ i → (map view_slot a ≡ nodes_from hs xs ss ms) × (any_of over_slot a ≡ any_of over_of hs)
     packing-all i a P le = (
@@ -534,6 +539,13 @@ module _ (s : List Slot) (size : length s ≡ 64) where
         shares = subst (Copied (map shares_of s) (i + 1)) (sym P.shares) (mapped-more shares_of s 64 size ss i d [] _ U.shares lt refl);
         minima = subst (Copied (map minima_of s) (i + 1)) (sym P.minima) (mapped-more minima_of s 64 size ms i d [] _ U.minima lt refl);
       }
+
+  -- the same, column by column
+  pub unpacking-set : (hs xs : List (List ℕ)) (ss ms : List (List Float)) (i : ℕ) (d : Slot) (h x : List ℕ) (y m : List Float) → Unpacking s i hs xs ss ms → i < 64
+      → h ≡ head_of (get_or s i d) → x ≡ ids_of (get_or s i d) → y ≡ shares_of (get_or s i d) → m ≡ minima_of (get_or s i d) → Unpacking s (i + 1) (set hs i h) (set xs i x) (set ss i y) (set ms i m)
+  unpacking-set hs xs ss ms i d h x y m U lt a b c e =
+      unpacking-more hs xs ss ms i d (set hs i h) (set xs i x) (set ss i y) (set ms i m) U lt
+      (record { heads = ap (set hs i) a; ids = ap (set xs i) b; shares = ap (set ss i) c; minima = ap (set ms i) e })
 
   pub unpacking-all : (hs xs : List (List ℕ)) (ss ms : List (List Float)) (i : ℕ) → Unpacking s i hs xs ss ms → 64 ≤ i → Unpacks s hs xs ss ms
   unpacking-all hs xs ss ms i U le =
