@@ -16,7 +16,7 @@ fn tidy_head(h: [u64; 8]) -> [u64; 8]
     }
 }
 
-// A loop and no `map`: an array's `map` makes a second array, and takes three times as long.
+// A loop and no `map`: an array's `map` moves each entry into a second array, and that takes many times the instructions.
 fn tidy_all(heads: &mut [[u64; 8]; 64])
     ensures { heads.new ≡ map tidied heads.old }
 {
