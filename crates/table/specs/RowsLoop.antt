@@ -70,8 +70,13 @@ module _ (bs : List ℕ) (t : Places) (i due : ℕ) (k : Taken) (w : Going bs t 
         minima-few = omega (arith, w.minima-few, r.small.minima);
       }
 
-pub going_end : (bs : List ℕ) (t : Places) (i due : ℕ) (k : Taken) → Going bs t i due k → t.rows.count ≤ i
+-- with no row left the walk answers by what is due and what is taken, however far past the last row it stands
+pub going_past : (bs : List ℕ) (t : Places) (i due : ℕ) (k : Taken) → walk t (drop i (chunks_at bs t.rows)) due k ≡ ok_rows bs t → t.rows.count ≤ i
     → (eqb due 0 && eqb k.panes t.panes.count && eqb k.shares t.shares.count && eqb k.minima t.minima.count) ≡ ok_rows bs t
 unfolding ok_from
-going_end bs t i due k w h =
-    sym (ap (λ (l : List (List ℕ)). walk t l due k) (drop_of_length-le (chunks_at bs t.rows) {i = i} (omega (arith, length-chunks 8 t.rows.count (drop t.rows.start bs))))) ∙ w.rest
+going_past bs t i due k w h =
+    sym (ap (λ (l : List (List ℕ)). walk t l due k) (drop_of_length-le (chunks_at bs t.rows) {i = i} (omega (arith, length-chunks 8 t.rows.count (drop t.rows.start bs))))) ∙ w
+
+pub going_end : (bs : List ℕ) (t : Places) (i due : ℕ) (k : Taken) → Going bs t i due k → t.rows.count ≤ i
+    → (eqb due 0 && eqb k.panes t.panes.count && eqb k.shares t.shares.count && eqb k.minima t.minima.count) ≡ ok_rows bs t
+going_end bs t i due k w = going_past bs t i due k w.rest
